@@ -1,0 +1,4 @@
+//! Protocol buffers on the wire: varints, fields that borrow from the message, and messages field by field.
+pub mod decode;
+pub mod field;
+pub mod varint;
