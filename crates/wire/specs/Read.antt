@@ -77,16 +77,16 @@ seen (Ok x) = Ok (wire (x .0), x .1)
 seen (Err e) = Err e
 
 -- a fault, with the place of the first octet of its field
-abbrev pub located : {X : Type 0} → ℕ → Result X Fault → Result X DecodeError
-located at (Ok x) = Ok x
-located at (Err e) = Err (record { place = at; fault = e })
+abbrev pub inPlace : {X : Type 0} → ℕ → Result X Fault → Result X DecodeError
+inPlace at (Ok x) = Ok x
+inPlace at (Err e) = Err (record { place = at; fault = e })
 
 -- a message, field by field: `merge` joins each to what was read before it. The fuel is the number of octets, which no count of fields exceeds
 abbrev pub decodeFrom : {S : Type 0} → (S → WireField → Result S Fault) → ℕ → S → ℕ → List ℕ → Result S DecodeError
 decodeFrom merge zero s at bs = Ok s
 decodeFrom merge (suc fuel) s at bs =
     cond (ltb at (length bs))
-    (andThen (located at (readField at bs)) (λ x. andThen (located at (merge s (x .0))) (λ t. decodeFrom merge fuel t (x .1) bs)))
+    (andThen (inPlace at (readField at bs)) (λ x. andThen (inPlace at (merge s (x .0))) (λ t. decodeFrom merge fuel t (x .1) bs)))
     (Ok s)
 
 unfoldable pub decoded : {S : Type 0} → (S → WireField → Result S Fault) → S → List ℕ → Result S DecodeError

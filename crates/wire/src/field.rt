@@ -1,12 +1,12 @@
 //! The fields of a message: a number, or a part of the message, each with its place.
 ghost use mathlib.Core.Path.{_≡_};
 ghost use mathlib.Core.Bool.{cond};
-ghost use Prim.Native.Nat.{_/_, _<_, _≤_};
+ghost use Prim.Native.Nat.{_+_, _/_, _<_, _≤_};
 ghost use lib.ListN.{length};
 ghost use Rattle.std.specs.Vec.{made};
 ghost use Rattle.std.specs.declared.result.Result.the-variants.{Ok, Err};
 ghost use Rattle.wire.specs.declared.field.Fault.the-variants.{Key};
-ghost use Rattle.wire.specs.Read.{isTag, fixedAt, readField, seen, placeOf};
+ghost use Rattle.wire.specs.Read.{isTag, fixedAt, readField, seen, wire, placeOf, weight};
 use crate::varint::read_varint;
 
 /// What can be wrong with a field. Of several, the first of this list is told.
@@ -96,7 +96,7 @@ fn tag_of(key: u64) -> Result<u32, Fault>
 /// The field whose key stands at `at`, and the place past it. First the value is read, then the tag is looked at, then the wire type.
 pub fn read_field(input: &[u8], at: usize) -> Result<(Field<'_>, usize), Fault>
     ensures value { λ r. ⌜ seen r ≡ readField at (now (input .entry)) ⌝ }
-    ensures within { λ r. ⌜ made r (λ x. (placeOf (x .0) ≡ at) × (at < x .1) × (x .1 ≤ length (now (input .entry)))) ⌝ }
+    ensures within { λ r. ⌜ made r (λ x. (placeOf (x .0) ≡ at) × (at < x .1) × (at + weight (wire (x .0)) ≤ x .1) × (x .1 ≤ length (now (input .entry)))) ⌝ }
 {
     let (key, here) = read_varint(input, at)?;
     match key % 8 {
