@@ -1,3 +1,5 @@
+pub mod Encoded
 pub mod Front
+pub mod Groups
 pub mod Messages
 pub mod Varints

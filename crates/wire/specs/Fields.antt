@@ -25,10 +25,14 @@ varintBytes n = groups 10 n
 abbrev pub key : ℕ → ℕ → List ℕ
 key tag kind = varintBytes (8 * tag + kind)
 
+-- what stands before a part: its key, and how long it is
+unfoldable pub prefix : ℕ → ℕ → List ℕ
+prefix tag size = key tag 2 ++ varintBytes size
+
 unfoldable pub encode : WireField → List ℕ
 encode (varint tag n) = key tag 0 ++ varintBytes n
 encode (fixed64 tag n) = key tag 1 ++ little 8 n
-encode (part tag bs) = key tag 2 ++ (varintBytes (length bs) ++ bs)
+encode (part tag bs) = prefix tag (length bs) ++ bs
 encode (fixed32 tag n) = key tag 5 ++ little 4 n
 
 -- a message is its fields, one after another

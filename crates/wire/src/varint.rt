@@ -1,8 +1,9 @@
 //! Base-128 varints: seven bits to an octet, the lowest first.
 ghost use mathlib.Core.Path.{_≡_};
 ghost use Prim.Native.Nat.{_<_, _≤_};
-ghost use lib.ListN.{length};
+ghost use lib.ListN.{length, take};
 ghost use Rattle.std.specs.Vec.{made};
+ghost use Rattle.wire.specs.Fields.{varintBytes};
 ghost use Rattle.wire.specs.Read.{varintAt};
 use crate::field::Fault;
 
@@ -28,4 +29,47 @@ pub fn read_varint(input: &[u8], at: usize) -> Result<(u64, usize), Fault>
         }
     }
     Err(Fault::Varint)
+}
+
+/// A varint as it is written: the first `len` of `octets`.
+#[derive(Clone, Copy)]
+pub struct EncodedVarint {
+    octets: [u8; 10],
+    len: usize,
+    ghost some: { len ≤ 10 },
+}
+
+impl EncodedVarint {
+    /// The shortest varint of a value.
+    pub fn of(value: u64) -> EncodedVarint
+        ensures value { λ r. ⌜ take (r .len) (r .octets) ≡ varintBytes value ⌝ }
+        ensures size { λ r. ⌜ r .len ≡ length (varintBytes value) ⌝ }
+    {
+        let mut octets = [0u8; 10];
+        let mut rest = value;
+        let mut len = 0;
+        while rest >= 0x80 {
+            octets[len] = (rest & 0x7f) as u8 | 0x80;
+            rest >>= 7;
+            len += 1;
+        }
+        octets[len] = rest as u8;
+        EncodedVarint {
+            octets,
+            len: len + 1,
+        }
+    }
+
+    pub fn len(&self) -> usize
+        ensures { λ r. ⌜ r ≡ now (self .entry) .len ⌝ }
+    {
+        self.len
+    }
+
+    pub fn as_slice(&self) -> &[u8]
+        ensures value { λ r. ⌜ now r ≡ take (now (self .entry) .len) (now (self .entry) .octets) ⌝ }
+        ensures size { λ r. ⌜ length (now r) ≡ now (self .entry) .len ⌝ }
+    {
+        &self.octets[0..self.len]
+    }
 }

@@ -1,0 +1,51 @@
+-- The octets of fields, joined and split. Assumes nothing.
+use mathlib.Core.Path.{_≡_, refl, sym, ap, _∙_}
+use mathlib.Core.List.{List, [], _∷_, _++_}
+use Prim.Native.Nat.{ℕ, _+_, _-_, _*_, _≤_, _<_}
+use native.Mathlib.Nat.{add-zero}
+use native.Mathlib.Omega.{arith}
+use lib.ListN.{length}
+use borrow.Rule.Slice.PartMut.{putMid}
+use Rattle.std.proofs.shelf.Lists.{append-assoc, append-nil, length-append}
+use Rattle.wire.specs.Fields.{WireField, varint, part, varintBytes, prefix, encode, encodeAll}
+use Rattle.wire.proofs.Front.{start, put, done}
+
+pub encode-join : (fs gs : List WireField) → encodeAll (fs ++ gs) ≡ encodeAll fs ++ encodeAll gs
+unfolding encodeAll
+encode-join [] gs = refl
+encode-join (f ∷ fs) gs = ap (λ z. encode f ++ z) (encode-join fs gs) ∙ sym (append-assoc (encode f) (encodeAll fs) (encodeAll gs))
+
+pub encode-one : (f : WireField) → encodeAll (f ∷ []) ≡ encode f
+unfolding encodeAll
+encode-one f = append-nil (encode f)
+
+pub join-length : (fs gs : List WireField) → length (encodeAll (fs ++ gs)) ≡ length (encodeAll fs) + length (encodeAll gs)
+join-length fs gs = ap length (encode-join fs gs) ∙ length-append (encodeAll fs) (encodeAll gs)
+
+-- a field alone
+pub number-is : (tag n : ℕ) → encodeAll (varint tag n ∷ []) ≡ varintBytes (8 * tag) ++ varintBytes n
+unfolding encode
+number-is tag n = encode-one (varint tag n) ∙ ap (λ z. varintBytes z ++ varintBytes n) (add-zero (8 * tag))
+
+pub number-length : (tag n : ℕ) → length (encodeAll (varint tag n ∷ [])) ≡ length (varintBytes (8 * tag)) + length (varintBytes n)
+number-length tag n = ap length (number-is tag n) ∙ length-append (varintBytes (8 * tag)) (varintBytes n)
+
+pub prefix-is : (tag n : ℕ) → prefix tag n ≡ varintBytes (8 * tag + 2) ++ varintBytes n
+unfolding prefix
+prefix-is tag n = refl
+
+pub prefix-length : (tag n : ℕ) → length (prefix tag n) ≡ length (varintBytes (8 * tag + 2)) + length (varintBytes n)
+prefix-length tag n = ap length (prefix-is tag n) ∙ length-append (varintBytes (8 * tag + 2)) (varintBytes n)
+
+pub part-is : (tag : ℕ) (bs : List ℕ) → encodeAll (part tag bs ∷ []) ≡ prefix tag (length bs) ++ bs
+unfolding encode
+part-is tag bs = encode-one (part tag bs)
+
+pub part-length : (tag : ℕ) (bs : List ℕ) → length (encodeAll (part tag bs ∷ [])) ≡ length (prefix tag (length bs)) + length bs
+part-length tag bs = ap length (part-is tag bs) ∙ length-append (prefix tag (length bs)) bs
+
+-- a buffer that is written in two parts
+pub in-two : (xs a b : List ℕ) (n : ℕ) → length a ≡ n → n + length b ≡ length xs → putMid n (length xs - n) (putMid 0 (n - 0) xs a) b ≡ a ++ b
+in-two xs a b n ea eb =
+    let f = put (start xs) (n - 0) n a (omega arith) (omega arith) (omega arith) in
+    done (put f (length xs - n) (length xs) b (omega arith) (omega arith) (omega arith)) refl
