@@ -1,12 +1,12 @@
 -- The octets of fields, joined and split. Assumes nothing.
 use mathlib.Core.Path.{_≡_, refl, sym, ap, _∙_}
-use mathlib.Core.List.{List, [], _∷_, _++_}
+use mathlib.Core.List.{List, [], _∷_, _++_, map}
 use Prim.Native.Nat.{ℕ, _+_, _-_, _*_, _≤_, _<_}
 use native.Mathlib.Nat.{add-zero}
 use native.Mathlib.Omega.{arith}
-use lib.ListN.{length}
+use lib.ListN.{length, getD, take, drop}
 use borrow.Rule.Slice.PartMut.{putMid}
-use Rattle.std.proofs.shelf.Lists.{append-assoc, append-nil, length-append}
+use Rattle.std.proofs.shelf.Lists.{append-assoc, append-nil, length-append, map-append, drop-more, drop-all, take-more, take-all}
 use Rattle.wire.specs.Fields.{WireField, varint, part, varintBytes, prefix, encode, encodeAll}
 use Rattle.wire.proofs.Front.{start, put, done}
 
@@ -18,6 +18,10 @@ encode-join (f ∷ fs) gs = ap (λ z. encode f ++ z) (encode-join fs gs) ∙ sym
 pub encode-one : (f : WireField) → encodeAll (f ∷ []) ≡ encode f
 unfolding encodeAll
 encode-one f = append-nil (encode f)
+
+pub nothing : encodeAll [] ≡ []
+unfolding encodeAll
+nothing = refl
 
 pub join-length : (fs gs : List WireField) → length (encodeAll (fs ++ gs)) ≡ length (encodeAll fs) + length (encodeAll gs)
 join-length fs gs = ap length (encode-join fs gs) ∙ length-append (encodeAll fs) (encodeAll gs)
@@ -49,3 +53,28 @@ pub in-two : (xs a b : List ℕ) (n : ℕ) → length a ≡ n → n + length b �
 in-two xs a b n ea eb =
     let f = put (start xs) (n - 0) n a (omega arith) (omega arith) (omega arith) in
     done (put f (length xs - n) (length xs) b (omega arith) (omega arith) (omega arith)) refl
+
+-- one row of a table after another
+module _ {T : Type 0} (f : T → WireField) (rows : List T) (i : ℕ) (x : T) (h : i < length rows) (e : x ≡ getD rows i x) where
+  pub rows-left : encodeAll (map f (drop i rows)) ≡ encodeAll (f x ∷ []) ++ encodeAll (map f (drop (i + 1) rows))
+  rows-left =
+      ap (λ z. encodeAll (map f z)) (drop-more rows i x h)
+      ∙ encode-join (f (getD rows i x) ∷ []) (map f (drop (i + 1) rows))
+      ∙ ap (λ z. encodeAll (f z ∷ []) ++ encodeAll (map f (drop (i + 1) rows))) (sym e)
+
+  pub left-length : length (encodeAll (map f (drop i rows))) ≡ length (encodeAll (f x ∷ [])) + length (encodeAll (map f (drop (i + 1) rows)))
+  left-length = ap length rows-left ∙ length-append (encodeAll (f x ∷ [])) (encodeAll (map f (drop (i + 1) rows)))
+
+  pub rows-done : encodeAll (map f (take (i + 1) rows)) ≡ encodeAll (map f (take i rows)) ++ encodeAll (f x ∷ [])
+  rows-done =
+      ap (λ z. encodeAll (map f z)) (take-more rows i x h)
+      ∙ ap encodeAll (map-append f (take i rows) (getD rows i x ∷ []))
+      ∙ encode-join (map f (take i rows)) (f (getD rows i x) ∷ [])
+      ∙ ap (λ z. encodeAll (map f (take i rows)) ++ encodeAll (f z ∷ [])) (sym e)
+
+pub none-left : {T : Type 0} (f : T → WireField) (rows : List T) (i : ℕ) → length rows ≤ i → encodeAll (map f (drop i rows)) ≡ []
+unfolding encodeAll
+none-left f rows i h = ap (λ z. encodeAll (map f z)) (drop-all i rows h)
+
+pub all-done : {T : Type 0} (f : T → WireField) (rows : List T) (i : ℕ) → length rows ≤ i → encodeAll (map f (take i rows)) ≡ encodeAll (map f rows)
+all-done f rows i h = ap (λ z. encodeAll (map f z)) (take-all i rows h)

@@ -42,6 +42,10 @@ module _ {xs : List ℕ} {n : ℕ} {p zs : List ℕ} (f : Front xs n p zs) where
     within = omega arith;
   }
 
+  -- the same, where what is written has another name
+  pub renamed : (q : List ℕ) → p ≡ q → Front xs n q zs
+  renamed q e = record { is = f .is ∙ ap (λ z. z ++ drop n xs) e; long = ap length (sym e) ∙ f .long; within = f .within }
+
   pub done : length xs ≡ n → zs ≡ p
   done e = f .is ∙ ap (λ z. p ++ z) (drop-all n xs (omega arith)) ∙ append-nil p
 

@@ -135,3 +135,43 @@ pub impl<A: Message, B: Message> Message for Then<A, B> as ThenMessage {
         self.1.encode(&mut out[first..size]);
     }
 }
+
+/// How one row of a table is written as a field.
+pub trait FieldOf<T> {
+    ghost field: { T → WireField };
+
+    fn field_len(row: &T) -> usize
+        requires { ⌜ length (encodeAll (field (now row) ∷ [])) < 2 ^ 64 ⌝ }
+        ensures { λ r. ⌜ r ≡ length (encodeAll (field (now (row .entry)) ∷ [])) ⌝ };
+
+    fn put_field(row: &T, out: &mut [u8])
+        requires { ⌜ length (now out) ≡ length (encodeAll (field (now row) ∷ [])) ⌝ }
+        ensures { λ _. ⌜ now (out .exit) ≡ encodeAll (field (now (row .entry)) ∷ []) ⌝ };
+}
+
+/// A repeated field: one for each row, in the order of the rows.
+pub struct Each<'a, T, F> {
+    pub rows: &'a [T],
+    pub by: F,
+}
+
+pub impl<'a, T, F: FieldOf<T>> Message for Each<'a, T, F> as EachMessage {
+    ghost fields = { λ e. map (F·FieldOf .field) (now (e .rows)) };
+
+    fn encoded_len(&self) -> usize {
+        let mut size = 0;
+        for row in self.rows {
+            size += F::field_len(row);
+        }
+        size
+    }
+
+    fn encode(&self, out: &mut [u8]) {
+        let mut at = 0;
+        for row in self.rows {
+            let next = at + F::field_len(row);
+            F::put_field(row, &mut out[at..next]);
+            at = next;
+        }
+    }
+}
