@@ -7,7 +7,8 @@ use native.Mathlib.Omega.{arith}
 use lib.ListN.{length, getD, take, drop}
 use borrow.Rule.Slice.PartMut.{putMid}
 use Rattle.std.proofs.shelf.Lists.{append-assoc, append-nil, length-append, map-append, drop-more, drop-all, take-more, take-all}
-use Rattle.wire.specs.Fields.{WireField, varint, part, varintBytes, prefix, encode, encodeAll}
+use Rattle.wire.specs.Octets.{little}
+use Rattle.wire.specs.Fields.{WireField, varint, fixed64, part, fixed32, varintBytes, key, prefix, encode, encodeAll}
 use Rattle.wire.proofs.Front.{start, put, done}
 
 pub encode-join : (fs gs : List WireField) → encodeAll (fs ++ gs) ≡ encodeAll fs ++ encodeAll gs
@@ -47,6 +48,23 @@ part-is tag bs = encode-one (part tag bs)
 
 pub part-length : (tag : ℕ) (bs : List ℕ) → length (encodeAll (part tag bs ∷ [])) ≡ length (prefix tag (length bs)) + length bs
 part-length tag bs = ap length (part-is tag bs) ∙ length-append (prefix tag (length bs)) bs
+
+-- how many octets a field has
+pub varint-octets : (tag n : ℕ) → length (encode (varint tag n)) ≡ length (key tag 0) + length (varintBytes n)
+unfolding encode
+varint-octets tag n = length-append (key tag 0) (varintBytes n)
+
+pub fixed64-octets : (tag n : ℕ) → length (encode (fixed64 tag n)) ≡ length (key tag 1) + 8
+unfolding encode
+fixed64-octets tag n = length-append (key tag 1) (little 8 n)
+
+pub part-octets : (tag : ℕ) (bs : List ℕ) → length (encode (part tag bs)) ≡ length (prefix tag (length bs)) + length bs
+unfolding encode
+part-octets tag bs = length-append (prefix tag (length bs)) bs
+
+pub fixed32-octets : (tag n : ℕ) → length (encode (fixed32 tag n)) ≡ length (key tag 5) + 4
+unfolding encode
+fixed32-octets tag n = length-append (key tag 5) (little 4 n)
 
 -- a buffer that is written in two parts
 pub in-two : (xs a b : List ℕ) (n : ℕ) → length a ≡ n → n + length b ≡ length xs → putMid n (length xs - n) (putMid 0 (n - 0) xs a) b ≡ a ++ b

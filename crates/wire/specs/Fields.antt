@@ -13,6 +13,12 @@ pub data WireField : Type 0 where
   part : ℕ → List ℕ → WireField
   fixed32 : ℕ → ℕ → WireField
 
+abbrev pub tagOf : WireField → ℕ
+tagOf (varint tag n) = tag
+tagOf (fixed64 tag n) = tag
+tagOf (part tag bs) = tag
+tagOf (fixed32 tag n) = tag
+
 -- seven bits to an octet, the lowest first; the highest bit says that another octet follows. Ten octets hold 64 bits
 abbrev pub groups : ℕ → ℕ → List ℕ
 groups zero n = []

@@ -1,3 +1,4 @@
 pub mod Octets
 pub mod Fields
 pub mod Read
+pub mod Find

@@ -2,10 +2,13 @@
 ghost use mathlib.Core.Path.{_≡_};
 ghost use mathlib.Core.List.{List, [], _∷_, _++_, map};
 ghost use Prim.Native.Nat.{ℕ, _+_, _*_, _^_, _<_, _≤_};
+ghost use lib.Dec.{eqb};
 ghost use lib.ListN.{length, drop};
 ghost use denote.Ref.{now};
 ghost use Rattle.std.specs.declared.option.Option.the-variants.{Some, None};
-ghost use Rattle.wire.specs.Fields.{WireField, varint, part, prefix, encodeAll};
+ghost use Rattle.wire.specs.Fields.{WireField, varint, part, key, prefix, encode, encodeAll};
+ghost use Rattle.wire.specs.Read.{wire};
+use crate::field::Field;
 use crate::varint::EncodedVarint;
 
 /// What can be written as fields of a message.
@@ -33,6 +36,15 @@ fn put_pair(out: &mut [u8], first: &[u8], second: &[u8])
     out[middle..size].copy_from_slice(second);
 }
 
+// A key: the tag, and the wire type in the lowest three bits.
+fn key_len(tag: u32, wire_type: u64) -> usize
+    requires { ⌜ «wire_type» < 8 ⌝ }
+    ensures value { λ r. ⌜ r ≡ length (key tag «wire_type») ⌝ }
+    ensures bound { λ r. ⌜ r ≤ 10 ⌝ }
+{
+    EncodedVarint::of(8 * tag as u64 + wire_type).len()
+}
+
 // What stands before a part of `inner` octets: its key, and how long it is.
 fn prefix_len(tag: u32, inner: usize) -> usize
     ensures value { λ r. ⌜ r ≡ length (prefix tag inner) ⌝ }
@@ -50,6 +62,23 @@ fn put_prefix(out: &mut [u8], tag: u32, inner: usize)
     let key = EncodedVarint::of(8 * tag as u64 + 2);
     let size = EncodedVarint::of(inner as u64);
     put_pair(out, key.as_slice(), size.as_slice());
+}
+
+impl Field<'_> {
+    /// Whether so many octets are all that the field needs: its key, its length and its number each in the shortest varint.
+    pub fn is_shortest(&self, octets: usize) -> bool
+        ensures { λ r. ⌜ r ≡ eqb octets (length (encode (wire (now (self .entry))))) ⌝ }
+    {
+        match self {
+            Field::Varint { tag, value, .. } => octets
+                == key_len(*tag, 0) + EncodedVarint::of(*value).len(),
+            Field::Fixed64 { tag, .. } => octets == key_len(*tag, 1) + 8,
+            Field::Part { tag, bytes, .. } => {
+                octets >= bytes.len() && octets - bytes.len() == prefix_len(*tag, bytes.len())
+            }
+            Field::Fixed32 { tag, .. } => octets == key_len(*tag, 5) + 4,
+        }
+    }
 }
 
 /// A field that is a number.

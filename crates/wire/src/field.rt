@@ -6,6 +6,7 @@ ghost use lib.ListN.{length};
 ghost use Rattle.std.specs.Vec.{made};
 ghost use Rattle.std.specs.declared.result.Result.the-variants.{Ok, Err};
 ghost use Rattle.wire.specs.declared.field.Fault.the-variants.{Key};
+ghost use Rattle.wire.specs.Fields.{tagOf};
 ghost use Rattle.wire.specs.Read.{isTag, fixedAt, readField, seen, wire, placeOf, weight};
 use crate::varint::read_varint;
 
@@ -52,6 +53,19 @@ pub enum Field<'a> {
         place: usize,
         value: u32,
     },
+}
+
+impl Field<'_> {
+    pub fn tag(&self) -> u32
+        ensures { λ r. ⌜ r ≡ tagOf (wire (now (self .entry))) ⌝ }
+    {
+        match self {
+            Field::Varint { tag, .. } => *tag,
+            Field::Fixed64 { tag, .. } => *tag,
+            Field::Part { tag, .. } => *tag,
+            Field::Fixed32 { tag, .. } => *tag,
+        }
+    }
 }
 
 // The eight octets at `at`, the lowest first.

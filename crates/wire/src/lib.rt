@@ -2,4 +2,5 @@
 pub mod decode;
 pub mod encode;
 pub mod field;
+pub mod find;
 pub mod varint;
