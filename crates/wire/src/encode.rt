@@ -82,6 +82,7 @@ impl Field<'_> {
 }
 
 /// A field that is a number.
+#[derive(Clone, Copy)]
 pub struct Uint {
     pub tag: u32,
     pub value: u64,
@@ -104,6 +105,7 @@ pub impl Message for Uint as UintMessage {
 }
 
 /// A field that is a part of the message, as a text or octets.
+#[derive(Clone, Copy)]
 pub struct Bytes<'a> {
     pub tag: u32,
     pub bytes: &'a [u8],
@@ -125,6 +127,7 @@ pub impl<'a> Message for Bytes<'a> as BytesMessage {
 }
 
 /// A field that is a message of its own.
+#[derive(Drop)]
 pub struct Nested<M> {
     pub tag: u32,
     pub message: M,
@@ -148,6 +151,7 @@ pub impl<M: Message> Message for Nested<M> as NestedMessage {
 }
 
 /// One message after another.
+#[derive(Drop)]
 pub struct Then<A, B>(pub A, pub B);
 
 pub impl<A: Message, B: Message> Message for Then<A, B> as ThenMessage {
@@ -179,6 +183,7 @@ pub trait FieldOf<T> {
 }
 
 /// A repeated field: one for each row, in the order of the rows.
+#[derive(Drop)]
 pub struct Each<'a, T, F> {
     pub rows: &'a [T],
     pub by: F,
