@@ -1,3 +1,5 @@
 pub mod Form
 pub mod Messages
+pub mod Requests
 pub mod Rules
+pub mod Stages
