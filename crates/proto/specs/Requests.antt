@@ -1,12 +1,15 @@
 -- The requests of datatransfer.proto, as their fields, and what stands before them on the wire. Assumes nothing.
 use mathlib.Core.List.{List, [], _∷_, _++_, map}
-use Prim.Native.Nat.{ℕ, _+_}
-use lib.ListN.{length}
+use mathlib.Core.Path.{_≡_}
+use Prim.Native.Nat.{ℕ, _+_, _≤_, _<_}
+use lib.ListN.{length, drop}
+use Rattle.std.specs.declared.option.Option.{Option}
+use Rattle.std.specs.declared.option.Option.the-variants.{Some, None}
 use Rattle.wire.specs.Octets.{big}
 use Rattle.wire.specs.Fields.{WireField, varint, part, varintBytes, encodeAll}
 use Rattle.proto.specs.declared.datanode.Datanode.{Datanode}
-use Rattle.proto.specs.declared.request.Construction.{Construction}
-use Rattle.proto.specs.declared.request.Storages.{Storages}
+use Rattle.proto.specs.declared.parts.Construction.{Construction}
+use Rattle.proto.specs.declared.parts.Storages.{Storages}
 use Rattle.proto.specs.declared.transfer_block.TransferBlock.{TransferBlock}
 use Rattle.proto.specs.declared.write_block.WriteBlock.{WriteBlock}
 use Rattle.proto.specs.Messages.{held, infoOf, headerFields}
@@ -53,3 +56,8 @@ transferFields t =
 -- version 28, the operation's code, and the message after its length
 abbrev pub framed : ℕ → List ℕ → List ℕ
 framed code message = big 2 28 ++ (code ∷ (varintBytes (length message) ++ message))
+
+-- what is at the front of a buffer after a write that answers how long it is, or that did not fit
+abbrev pub sent : List ℕ → List ℕ → List ℕ → Option ℕ → Type 0
+sent bs before after (Some n) = (n ≡ length bs) × (n ≤ length before) × (after ≡ bs ++ drop n before)
+sent bs before after None = (length before < length bs) × (after ≡ before)

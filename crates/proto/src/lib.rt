@@ -3,6 +3,7 @@ pub mod block;
 pub mod datanode;
 pub mod fixed;
 pub mod form;
+pub mod parts;
 pub mod request;
 mod rules;
 pub mod stage;

@@ -1,175 +1,82 @@
 //! Requests to a datanode, each behind version 28 and its own operation code.
+ghost use mathlib.Core.Bool.{true};
 ghost use mathlib.Core.Path.{_≡_};
-ghost use mathlib.Core.List.{List, _++_};
-ghost use Prim.Native.Nat.{ℕ, _+_, _^_, _<_, _≤_};
-ghost use lib.ListN.{length, drop};
-ghost use Rattle.std.specs.declared.option.Option.the-variants.{Some, None};
+ghost use Prim.Native.Nat.{ℕ, _≤_};
+ghost use lib.ListN.{length};
+ghost use Rattle.std.specs.Options.{isSome};
 ghost use Rattle.wire.specs.Fields.{encodeAll};
-ghost use Rattle.proto.specs.Requests.{constructionFields, constructionOf, storageFields, writeFields, transferFields, framed};
-use crate::block::ClientOperationHeaderMessage;
-use crate::datanode::Datanode;
-use crate::stage::Stage;
-use crate::targets::TargetInfo;
-use crate::targets::TargetInfoField;
-use crate::targets::TargetStorageId;
-use crate::targets::TargetStorageIdField;
-use crate::targets::TargetStorageType;
-use crate::targets::TargetStorageTypeField;
+ghost use Rattle.proto.specs.Requests.{framed, sent};
+use crate::parts::TransferBlockMessage;
+use crate::parts::WriteBlockMessage;
 use crate::transfer_block::TransferBlock;
 use crate::write_block::WriteBlock;
-use wire::encode::Bytes;
-use wire::encode::BytesMessage;
-use wire::encode::Each;
-use wire::encode::EachMessage;
 use wire::encode::Message;
-use wire::encode::Nested;
-use wire::encode::NestedMessage;
-use wire::encode::Then;
-use wire::encode::ThenMessage;
-use wire::encode::Uint;
-use wire::encode::UintMessage;
+use wire::varint::EncodedVarint;
 
-// `stage` to `requestedChecksum` of a pipeline to be set up.
-#[derive(Clone, Copy)]
-struct Construction {
-    stage: Stage,
-    pipeline_size: u64,
-    min_bytes: u64,
-    max_bytes: u64,
-    latest_stamp: u64,
+/// The version of the data transfer protocol.
+const DATA_TRANSFER_VERSION: u16 = 28;
+
+/// A request, by its operation code and its message.
+pub trait Request: Message {
+    const CODE: u8;
+
+    /// What `CODE` is to a contract.
+    ghost code: { ℕ };
+
+    /// `CODE`, which ties it to what contracts say.
+    fn op(&self) -> u8
+        ensures { λ r. ⌜ r ≡ code ⌝ };
+
+    /// The message's length, which is such that a buffer of 4,096 octets holds every request.
+    fn message_len(&self) -> usize
+        ensures value { λ r. ⌜ r ≡ length (encodeAll (Self·Message .fields (now (self .entry)))) ⌝ }
+        ensures bound { λ r. ⌜ r ≤ 3728 ⌝ };
 }
 
-macro_rules! construction_parts {
-    ($it:expr) => {
-        Then(
-            Uint { tag: 4, value: $it.stage.number() },
-            Then(
-                Uint { tag: 5, value: $it.pipeline_size },
-                Then(
-                    Uint { tag: 6, value: $it.min_bytes },
-                    Then(Uint { tag: 7, value: $it.max_bytes }, Uint { tag: 8, value: $it.latest_stamp }),
-                ),
-            ),
-        )
-    };
+/// Writes a request at the front of `out`: the version, the operation's code, and the message after its length. Where `out` is too short
+/// it stays as it was.
+pub fn send<R: Request>(request: &R, out: &mut [u8]) -> Option<usize>
+    ensures written { λ v. ⌜ sent (framed (R·Request .code) (encodeAll (R·Message .fields (now (request .entry))))) (now (out .entry)) (now (out .exit)) v ⌝ }
+    ensures suffices { λ v. ⌜ (4096 ≤ length (now (out .entry)) → isSome v ≡ true) ⌝ }
+{
+    let inner = request.message_len();
+    let size = EncodedVarint::of(inner as u64);
+    let from = 3 + size.len();
+    let end = from + inner;
+    if out.len() < end {
+        return None;
+    }
+    out[0..2].copy_from_slice(&DATA_TRANSFER_VERSION.to_be_bytes());
+    out[2] = request.op();
+    out[3..from].copy_from_slice(size.as_slice());
+    request.encode(&mut out[from..end]);
+    Some(end)
 }
 
-impl Message for Construction as ConstructionMessage {
-    ghost fields = { constructionFields };
+pub impl<'a> Request for WriteBlock<'a> as WriteBlockRequest {
+    const CODE: u8 = 80;
 
-    fn encoded_len(&self) -> usize {
-        construction_parts!(self).encoded_len()
+    ghost code = { 80 };
+
+    fn op(&self) -> u8 {
+        Self::CODE
     }
 
-    fn encode(&self, out: &mut [u8]) {
-        construction_parts!(self).encode(out)
-    }
-}
-
-// The storages of a pipeline's datanodes.
-#[derive(Clone, Copy)]
-struct Storages<'a> {
-    first: &'a Datanode,
-    targets: &'a [Datanode],
-}
-
-macro_rules! storage_parts {
-    ($it:expr) => {
-        Then(
-            Uint { tag: 11, value: u64::from($it.first.storage_type()) },
-            Then(
-                Each { rows: $it.targets, by: TargetStorageType },
-                Then(
-                    Bytes { tag: 16, bytes: $it.first.storage_id() },
-                    Each { rows: $it.targets, by: TargetStorageId },
-                ),
-            ),
-        )
-    };
-}
-
-impl<'a> Message for Storages<'a> as StoragesMessage {
-    ghost fields = { storageFields };
-
-    fn encoded_len(&self) -> usize {
-        storage_parts!(self).encoded_len()
-    }
-
-    fn encode(&self, out: &mut [u8]) {
-        storage_parts!(self).encode(out)
+    fn message_len(&self) -> usize {
+        self.encoded_len()
     }
 }
 
-impl<'a> WriteBlock<'a> {
-    fn construction(&self) -> Construction
-        ensures { λ r. ⌜ r ≡ constructionOf (now (self .entry)) ⌝ }
-    {
-        Construction {
-            stage: self.stage,
-            pipeline_size: self.targets.len() as u64 + 1,
-            min_bytes: self.min_bytes,
-            max_bytes: self.max_bytes,
-            latest_stamp: self.latest_stamp,
-        }
-    }
-}
+pub impl<'a> Request for TransferBlock<'a> as TransferBlockRequest {
+    const CODE: u8 = 86;
 
-macro_rules! write_parts {
-    ($request:expr) => {
-        Then(
-            Nested { tag: 1, message: $request.header },
-            Then(
-                Each { rows: $request.targets, by: TargetInfo },
-                Then(
-                    $request.construction(),
-                    Then(
-                        Nested {
-                            tag: 9,
-                            message: Then(
-                                Uint { tag: 1, value: 2 },
-                                Uint { tag: 2, value: u64::from($request.chunk_size) },
-                            ),
-                        },
-                        Storages { first: $request.first, targets: $request.targets },
-                    ),
-                ),
-            ),
-        )
-    };
-}
+    ghost code = { 86 };
 
-pub impl<'a> Message for WriteBlock<'a> as WriteBlockMessage {
-    ghost fields = { writeFields };
-
-    fn encoded_len(&self) -> usize {
-        write_parts!(self).encoded_len()
+    fn op(&self) -> u8 {
+        Self::CODE
     }
 
-    fn encode(&self, out: &mut [u8]) {
-        write_parts!(self).encode(out)
-    }
-}
-
-macro_rules! transfer_parts {
-    ($request:expr) => {
-        Then(
-            Nested { tag: 1, message: $request.header },
-            Then(
-                Bytes { tag: 2, bytes: $request.target.info() },
-                Uint { tag: 3, value: u64::from($request.target.storage_type()) },
-            ),
-        )
-    };
-}
-
-pub impl<'a> Message for TransferBlock<'a> as TransferBlockMessage {
-    ghost fields = { transferFields };
-
-    fn encoded_len(&self) -> usize {
-        transfer_parts!(self).encoded_len()
-    }
-
-    fn encode(&self, out: &mut [u8]) {
-        transfer_parts!(self).encode(out)
+    fn message_len(&self) -> usize {
+        self.encoded_len()
     }
 }
