@@ -1,0 +1,3 @@
+//! What a datanode answers: the acknowledgement of a packet by a whole pipeline, and the response to a request.
+pub mod packed;
+pub mod tally;

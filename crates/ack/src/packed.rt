@@ -1,0 +1,82 @@
+//! A repeated number, packed: its varints stand one after another in one part of the message.
+ghost use mathlib.Core.Path.{_≡_};
+ghost use Prim.Native.Nat.{ℕ, _+_, _*_, _^_, _<_, _≤_};
+ghost use lib.ListN.{length};
+ghost use Rattle.std.specs.Vec.{made};
+ghost use Rattle.ack.specs.Packed.{numbersOf, walked};
+ghost use Rattle.ack.specs.Steps.{stepOf, Sound};
+use wire::field::Fault;
+
+/// What is kept of a repeated number, whose values are pushed one by one.
+pub trait Repeated: Sized {
+    /// What a further value makes of what was kept before it.
+    ghost pushed: { Self → ℕ → Self };
+
+    /// A count that rises by at most one with each value.
+    ghost size: { Self → ℕ };
+
+    fn push(self, value: u64) -> Self
+        requires { ⌜ size self + 1 < 2 ^ 64 ⌝ }
+        ensures value { λ r. ⌜ r ≡ pushed self value ⌝ }
+        ensures bound { λ r. ⌜ size r ≤ size self + 1 ⌝ };
+}
+
+/// What one octet makes of a varint.
+#[derive(Clone, Copy)]
+pub enum Step {
+    /// Another octet follows: `turn` of them have given `low`.
+    More { low: u64, turn: u32 },
+    /// The varint is whole.
+    Whole(u64),
+    /// It has more than ten octets, or is above 2^64 - 1.
+    TooLong,
+}
+
+// One octet more of a varint, of which `turn` octets have given `low`.
+fn feed(low: u64, turn: u32, b: u8) -> Step
+    requires { ⌜ low < 2 ^ (7 * turn) ⌝ ∗ ⌜ turn < 10 ⌝ }
+    ensures value { λ r. ⌜ r ≡ stepOf low turn b ⌝ }
+    ensures sound { λ r. ⌜ Sound r ⌝ }
+{
+    if turn == 9 && b > 1 {
+        return Step::TooLong;
+    }
+    let all = low | (u64::from(b & 0x7f) << (7 * turn));
+    if b < 0x80 {
+        Step::Whole(all)
+    } else {
+        Step::More {
+            low: all,
+            turn: turn + 1,
+        }
+    }
+}
+
+// Pushes the numbers of one part to what was kept before it.
+pub(crate) fn push_packed<R: Repeated + Drop>(part: &[u8], start: R) -> Result<R, Fault>
+    requires { ⌜ R·Repeated .size start + length (now part) < 2 ^ 64 ⌝ }
+    ensures value { λ r. ⌜ r ≡ walked (R·Repeated .pushed) start (numbersOf (now (part .entry))) ⌝ }
+    ensures bound { λ r. ⌜ made r (λ s. R·Repeated .size s ≤ R·Repeated .size start + length (now (part .entry))) ⌝ }
+{
+    let mut values = start;
+    let mut low = 0;
+    let mut turn = 0;
+    for b in part {
+        match feed(low, turn, *b) {
+            Step::More { low: l, turn: t } => {
+                low = l;
+                turn = t;
+            }
+            Step::Whole(value) => {
+                values = values.push(value);
+                low = 0;
+                turn = 0;
+            }
+            Step::TooLong => return Err(Fault::Varint),
+        }
+    }
+    if turn != 0 {
+        return Err(Fault::End);
+    }
+    Ok(values)
+}
