@@ -1,10 +1,17 @@
--- One reply more, as the running tally takes it. Assumes nothing.
-use mathlib.Core.Bool.{true, cond}
+-- The running tally of a pipeline's replies, and what one reply more makes of it. Assumes nothing.
+use mathlib.Core.Bool.{true, false, cond}
+use mathlib.Core.List.{[], _∷_}
 use Prim.Native.Nat.{ℕ, _+_, _%_, _^_, max}
 use lib.Dec.{ltb, eqb}
 use lib.ListN.{set}
 use Rattle.ack.specs.declared.tally.FailedNodes.{FailedNodes}
 use Rattle.ack.specs.declared.tally.Replies.{Replies}
+
+abbrev pub noReplies : Replies
+noReplies = record {
+  known = 0;
+  failed = record { positions = false ∷ false ∷ false ∷ false ∷ false ∷ false ∷ false ∷ false ∷ []; count = 0; highest = 0 };
+}
 
 abbrev pub withFailed : FailedNodes → ℕ → FailedNodes
 withFailed f position = record {

@@ -80,3 +80,17 @@ pub(crate) fn push_packed<R: Repeated + Drop>(part: &[u8], start: R) -> Result<R
     }
     Ok(values)
 }
+
+/// A repeated number of which nothing is kept: its part is read for its faults alone.
+#[derive(Clone, Copy)]
+pub struct Skipped;
+
+pub impl Repeated for Skipped as SkippedRepeated {
+    ghost pushed = { λ s _. s };
+
+    ghost size = { λ _. 0 };
+
+    fn push(self, _value: u64) -> Skipped {
+        self
+    }
+}

@@ -1,7 +1,7 @@
 //! The replies of a pipeline's nodes, and the positions of those that failed.
 ghost use mathlib.Core.Path.{_≡_};
 ghost use Prim.Native.Nat.{_+_, _^_, _<_};
-ghost use Rattle.ack.specs.Tally.{withFailed, noted, replyCount};
+ghost use Rattle.ack.specs.Tally.{withFailed, noReplies, noted, replyCount};
 use crate::packed::Repeated;
 
 // The largest status code of datatransfer.proto, ERROR_BLOCK_PINNED.
@@ -41,6 +41,22 @@ impl FailedNodes {
 pub struct Replies {
     pub known: usize,
     pub failed: FailedNodes,
+}
+
+impl Replies {
+    // No reply yet.
+    pub(crate) fn none() -> Replies
+        ensures { λ r. ⌜ r ≡ noReplies ⌝ }
+    {
+        Replies {
+            known: 0,
+            failed: FailedNodes {
+                positions: [false; 8],
+                count: 0,
+                highest: 0,
+            },
+        }
+    }
 }
 
 pub impl Repeated for Replies as RepliesRepeated {
