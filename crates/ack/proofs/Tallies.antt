@@ -92,6 +92,7 @@ of-statuses-push ss s i = record { known = length-push ss s i; failed = (ap node
   where
     e : 0 + length ss ≡ length ss
     e = omega arith
+
     step : (b : Bool) → nodesAt (failures 0 ss ++ cond b [] ((0 + length ss) ∷ [])) ≡ cond b (nodesAt (failures 0 ss)) (withFailed (nodesAt (failures 0 ss)) (length ss))
     step true = ap nodesAt (append-nil (failures 0 ss))
     step false = nodesAt-push (failures 0 ss) (0 + length ss) ∙ ap (withFailed (nodesAt (failures 0 ss))) e

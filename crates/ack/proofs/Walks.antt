@@ -47,12 +47,15 @@ steps low turn b bs = outer (ltb b 128)
   where
     k : 7 * turn + 7 ≡ 7 * (turn + 1)
     k = omega arith
+
     fits : (c : Bool) → cond c (andThen (numbersFrom 0 0 bs) (λ ns. Ok ((low + b * 2 ^ (7 * turn)) ∷ ns))) (Err fault.Varint) ≡ after (cond c (Whole (low + b * 2 ^ (7 * turn))) TooLong) bs
     fits true = refl
     fits false = refl
+
     on : (c : Bool) → cond c (numbersFrom (7 * turn + 7) (low + (b - 128) * 2 ^ (7 * turn)) bs) (Err fault.Varint) ≡ after (cond c (More (low + (b - 128) * 2 ^ (7 * turn)) (turn + 1)) TooLong) bs
     on true = ap (λ n. numbersFrom n (low + (b - 128) * 2 ^ (7 * turn)) bs) k
     on false = refl
+
     outer : (c : Bool)
         → cond c (cond (ltb (low + b * 2 ^ (7 * turn)) (2 ^ 64)) (andThen (numbersFrom 0 0 bs) (λ ns. Ok ((low + b * 2 ^ (7 * turn)) ∷ ns))) (Err fault.Varint)) (cond (ltb (7 * turn) 63) (numbersFrom (7 * turn + 7) (low + (b - 128) * 2 ^ (7 * turn)) bs) (Err fault.Varint))
         ≡ after (cond c (cond (ltb (low + b * 2 ^ (7 * turn)) (2 ^ 64)) (Whole (low + b * 2 ^ (7 * turn))) TooLong) (cond (ltb (7 * turn) 63) (More (low + (b - 128) * 2 ^ (7 * turn)) (turn + 1)) TooLong)) bs

@@ -15,20 +15,21 @@ use crate::packed::Skipped;
 use crate::packed::SkippedRepeated;
 use crate::packed::push_packed;
 use crate::tally::FailedNodes;
+use crate::tally::FailedNodesDebug;
+use crate::tally::FailedNodesPartialEq;
 use crate::tally::Replies;
+use crate::tally::RepliesDebug;
+use crate::tally::RepliesPartialEq;
 use crate::tally::RepliesRepeated;
 use wire::decode::Merge;
 use wire::decode::decode;
 use wire::field::DecodeError;
 use wire::field::Fault;
 use wire::field::Field;
-use crate::tally::FailedNodesDebug;
-use crate::tally::FailedNodesPartialEq;
-use crate::tally::RepliesDebug;
-use crate::tally::RepliesPartialEq;
 
 // Sequence numbers are signed: these are -1 and -2.
 const HEART_BEAT_SEQNO: u64 = 0xffff_ffff_ffff_ffff;
+
 const UNKNOWN_SEQNO: u64 = 0xffff_ffff_ffff_fffe;
 
 /// A pipeline's answer: its number, as 64 bits, and its nodes' replies.

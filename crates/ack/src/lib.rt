@@ -3,3 +3,5 @@ pub mod ack;
 pub mod packed;
 pub mod response;
 pub mod tally;
+#[cfg(test)]
+mod tests;

@@ -23,7 +23,7 @@ pub trait Repeated: Sized {
 
 /// What one octet makes of a varint.
 #[derive(Clone, Copy)]
-pub enum Step {
+enum Step {
     /// Another octet follows: `turn` of them have given `low`.
     More { low: u64, turn: u32 },
     /// The varint is whole.

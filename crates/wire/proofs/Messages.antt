@@ -84,6 +84,7 @@ module _ {S T : Type 0} (h : S → T) (mergeS : S → WireField → Result S Fau
           ≡ andThen (andThen (inPlace at m) (λ t. decodeFrom mergeS k t next bs)) (λ t. Ok (h t))
       joins next on (Ok t) = on t
       joins next on (Err e) = refl
+
       turns : ((t : S) (next : ℕ) → decodeFrom mergeT k (h t) next bs ≡ andThen (decodeFrom mergeS k t next bs) (λ u. Ok (h u))) → (b : Bool) (r : Result (WireField × ℕ) DecodeError)
           → cond b (andThen r (λ x. andThen (inPlace at (mergeT (h s) (x .0))) (λ u. decodeFrom mergeT k u (x .1) bs))) (Ok (h s))
           ≡ andThen (cond b (andThen r (λ x. andThen (inPlace at (mergeS s (x .0))) (λ t. decodeFrom mergeS k t (x .1) bs))) (Ok s)) (λ t. Ok (h t))
