@@ -24,7 +24,7 @@ mergeStatus r (fixed32 tag n) = cond (eqb tag 1) (Err fault.WireType) (Ok r)
 abbrev pub noStatus : BlockOpResponse
 noStatus = record { status = None }
 
-unfoldable pub responseOf : List ℕ → Result BlockOpResponse DecodeError
+abbrev pub responseOf : List ℕ → Result BlockOpResponse DecodeError
 responseOf bs = decoded mergeStatus noStatus bs
 
 -- SUCCESS is 0

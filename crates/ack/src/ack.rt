@@ -6,6 +6,7 @@ ghost use lib.ListN.{length};
 ghost use Rattle.std.specs.Vec.{made};
 ghost use Rattle.std.specs.declared.result.Result.the-variants.{Ok, Err};
 ghost use Rattle.wire.specs.Fields.{varint, part};
+ghost use Rattle.wire.specs.Read.{andThen};
 ghost use Rattle.wire.specs.declared.field.Fault.the-variants.{WireType};
 ghost use Rattle.ack.specs.Acks.{zigzag, isAckTag};
 ghost use Rattle.ack.specs.Held.{noAck, mergesAck, ackSize, ackRead};
@@ -166,6 +167,13 @@ pub impl Merge for PipelineAck as PipelineAckMerge {
 pub fn judge(input: &[u8]) -> Result<Verdict, DecodeError>
     ensures { λ r. ⌜ r ≡ verdictOn (now (input .entry)) ⌝ }
 {
-    let ack = PipelineAck::read(input)?;
+    verdict_on(PipelineAck::read(input))
+}
+
+// What an answer means, where it could be read.
+fn verdict_on(read: Result<PipelineAck, DecodeError>) -> Result<Verdict, DecodeError>
+    ensures { λ r. ⌜ r ≡ andThen read (λ a. Ok (verdictOf (a .seqno) (a .replies .failed))) ⌝ }
+{
+    let ack = read?;
     Ok(ack.verdict())
 }

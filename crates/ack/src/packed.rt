@@ -1,8 +1,12 @@
 //! A repeated number, packed: its varints stand one after another in one part of the message.
 ghost use mathlib.Core.Path.{_≡_};
+ghost use mathlib.Core.Bool.{cond};
 ghost use Prim.Native.Nat.{ℕ, _+_, _*_, _^_, _<_, _≤_};
+ghost use lib.Dec.{eqb};
 ghost use lib.ListN.{length};
 ghost use Rattle.std.specs.Vec.{made};
+ghost use Rattle.std.specs.declared.result.Result.the-variants.{Ok, Err};
+ghost use Rattle.wire.specs.declared.field.Fault.the-variants.{End};
 ghost use Rattle.ack.specs.Packed.{numbersOf, walked};
 ghost use Rattle.ack.specs.Steps.{stepOf, Sound};
 use wire::field::Fault;
@@ -28,28 +32,35 @@ enum Step {
     More { low: u64, turn: u32 },
     /// The varint is whole.
     Whole(u64),
-    /// It has more than ten octets, or is above 2^64 - 1.
-    TooLong,
 }
 
-// One octet more of a varint, of which `turn` octets have given `low`.
-fn feed(low: u64, turn: u32, b: u8) -> Step
+// One octet more of a varint, of which `turn` octets have given `low`. It has at most ten, and is below 2^64.
+fn feed(low: u64, turn: u32, b: u8) -> Result<Step, Fault>
     requires { ⌜ low < 2 ^ (7 * turn) ⌝ ∗ ⌜ turn < 10 ⌝ }
     ensures value { λ r. ⌜ r ≡ stepOf low turn b ⌝ }
-    ensures sound { λ r. ⌜ Sound r ⌝ }
+    ensures sound { λ r. ⌜ made r Sound ⌝ }
 {
     if turn == 9 && b > 1 {
-        return Step::TooLong;
+        return Err(Fault::Varint);
     }
     let all = low | (u64::from(b & 0x7f) << (7 * turn));
     if b < 0x80 {
-        Step::Whole(all)
-    } else {
-        Step::More {
-            low: all,
-            turn: turn + 1,
-        }
+        return Ok(Step::Whole(all));
     }
+    Ok(Step::More {
+        low: all,
+        turn: turn + 1,
+    })
+}
+
+// The end of a part, `turn` octets into a varint.
+fn ended<R: Drop>(turn: u32, values: R) -> Result<R, Fault>
+    ensures { λ r. ⌜ r ≡ cond (eqb turn 0) (Ok values) (Err End) ⌝ }
+{
+    if turn != 0 {
+        return Err(Fault::End);
+    }
+    Ok(values)
 }
 
 // Pushes the numbers of one part to what was kept before it.
@@ -62,7 +73,8 @@ pub(crate) fn push_packed<R: Repeated + Drop>(part: &[u8], start: R) -> Result<R
     let mut low = 0;
     let mut turn = 0;
     for b in part {
-        match feed(low, turn, *b) {
+        let step = feed(low, turn, *b)?;
+        match step {
             Step::More { low: l, turn: t } => {
                 low = l;
                 turn = t;
@@ -72,13 +84,9 @@ pub(crate) fn push_packed<R: Repeated + Drop>(part: &[u8], start: R) -> Result<R
                 low = 0;
                 turn = 0;
             }
-            Step::TooLong => return Err(Fault::Varint),
         }
     }
-    if turn != 0 {
-        return Err(Fault::End);
-    }
-    Ok(values)
+    ended(turn, values)
 }
 
 /// A repeated number of which nothing is kept: its part is read for its faults alone.

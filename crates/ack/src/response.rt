@@ -64,7 +64,7 @@ pub impl Merge for BlockOpResponse as BlockOpResponseMerge {
                     return Ok(self);
                 }
                 Ok(BlockOpResponse {
-                    status: Some((value & 0xffff_ffff) as u32),
+                    status: Some((value % 0x1_0000_0000) as u32),
                 })
             }
             Field::Part { tag, .. } => self.merge_other(tag),

@@ -66,7 +66,7 @@ pub impl Repeated for Replies as RepliesRepeated {
 
     // A reply is an enum, of which the low 32 bits count. One that is no known status takes no position.
     fn push(self, value: u64) -> Replies {
-        let status = value & 0xffff_ffff;
+        let status = value % 0x1_0000_0000;
         if status > LAST_STATUS {
             return self;
         }

@@ -1,6 +1,7 @@
 use mathlib.Core.Path.{ap, _∙_}
 use native.Mathlib.Omega.{arith}
 use Prim.Native.Nat.{_+_}
+use Rattle.std.specs.declared.result.Result.the-variants.{Ok}
 use Rattle.wire.proofs.Varints.{Turn, joins, room, grows, not-tenth}
 use Rattle.ack.specs.declared.packed.Step.the-variants.{More, Whole}
 use Rattle.ack.proofs.Walks.{last, goes}
@@ -20,13 +21,13 @@ pub returns-then-b-lt128 : need.returns-then-b-lt128
 returns-then-b-lt128 c =
     let h = turn (need.at·returns-then-b-lt128 c .After-from) in
     let j = joins h in
-    record { value = ap Whole j ∙ last h (c .if-b-lt128 .taken); sound = rw j (room h) }
+    record { value = ap (λ n. Ok (Whole n)) j ∙ last h (c .if-b-lt128 .taken); sound = rw j (room h) }
 
-pub returns-else-b-lt128 : need.returns-else-b-lt128
-returns-else-b-lt128 c =
-    let h = turn (need.at·returns-else-b-lt128 c .After-from) in
+pub returns : need.returns
+returns c =
+    let h = turn (need.at·returns c .After-from) in
     let j = joins h in
     record {
-      value = ap (λ n. More n (c .args .turn + 1)) j ∙ goes h (c .if-b-lt128 .left);
+      value = ap (λ n. Ok (More n (c .args .turn + 1))) j ∙ goes h (c .if-b-lt128 .left);
       sound = (rw j (grows h), omega arith, omega (arith, not-tenth h (c .if-b-lt128 .left)));
     }
