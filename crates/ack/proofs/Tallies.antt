@@ -2,23 +2,21 @@
 use mathlib.Core.Path.{_≡_, refl, sym, ap, _∙_}
 use mathlib.Core.Bool.{Bool, true, false, cond, _||_}
 use mathlib.Core.List.{List, [], _∷_, _++_, map}
-use mathlib.Core.Logic.{_≢_, ⊎-elim}
-use Prim.Native.Nat.{ℕ, _+_, _%_, _^_, _≤_, _<_}
+use mathlib.Core.Logic.{⊎-elim}
+use Prim.Native.Nat.{ℕ, _+_, _%_, _^_, _<_}
 use native.Mathlib.Omega.{arith}
 use lib.Dec.{eqb, ltb}
 use lib.ListN.{length, getD, set}
 use Rattle.std.specs.Iters.{folded, counting}
-use Rattle.std.proofs.shelf.Counted.{fill-by-all, getD-map-counting, length-map-counting}
+use Rattle.std.proofs.shelf.Counted.{fill-by-all, getD-map-counting}
 use Rattle.std.proofs.shelf.Lists.{append-nil, append-assoc, length-push, length-set, getD-set-same, getD-set-other}
-use Rattle.std.proofs.shelf.Tests.{cond-true, cond-false, cases-lt, cases-eq, lt-ltb, le-ltb, eq-eqb, ne-eqb, or-left, or-right}
+use Rattle.std.proofs.shelf.Tests.{cond-true, cond-false, cases-lt, cases-eq, lt-ltb, le-ltb, eq-eqb, ne-eqb, or-right}
 use Rattle.std.specs.declared.result.Result.{Result}
 use Rattle.std.specs.declared.result.Result.the-variants.{Ok, Err}
 use Rattle.wire.specs.declared.field.Fault.{Fault}
 use Rattle.wire.specs.Fields.{WireField}
 use Rattle.wire.specs.Read.{andThen}
-use Rattle.ack.specs.declared.tally.FailedNodes.{FailedNodes}
 use Rattle.ack.specs.declared.tally.Replies.{Replies}
-use Rattle.ack.specs.declared.ack.PipelineAck.{PipelineAck}
 use Rattle.ack.specs.Acks.{AckPart, number, replies, nothing, AckFields, ackPart, joined, mergeAck, noFields}
 use Rattle.ack.specs.Failures.{known, failures, has, lastOf, nodesAt, failedNodes}
 use Rattle.ack.specs.Held.{took, mergesAck, noAck, held}

@@ -7,7 +7,6 @@ use Prim.Native.Nat.{ℕ, _+_, _-_, _*_, _^_, _≤_, _<_}
 use native.Mathlib.Omega.{arith}
 use lib.Dec.{eqb, ltb}
 use lib.ListN.{length, getD, drop}
-use Rattle.std.specs.Iters.{folded}
 use Rattle.std.specs.Vec.{made}
 use Rattle.std.proofs.shelf.Bits.{and-mask}
 use Rattle.std.proofs.shelf.Lists.{at-drop-more, at-drop-all}
@@ -17,7 +16,7 @@ use Rattle.std.specs.declared.result.Result.the-variants.{Ok, Err}
 use Rattle.wire.specs.declared.field.Fault.{Fault}
 use Rattle.wire.specs.declared.field.Fault.the-variants as fault
 use Rattle.wire.specs.Read.{andThen}
-use Rattle.wire.proofs.Varints.{Turn, joins, room, not-tenth, grows}
+use Rattle.wire.proofs.Varints.{Turn, room, not-tenth}
 use Rattle.ack.specs.declared.packed.Step.{Step}
 use Rattle.ack.specs.declared.packed.Step.the-variants.{More, Whole}
 use Rattle.ack.specs.Packed.{numbersFrom, numbersOf, walked}

@@ -1,6 +1,7 @@
 pub mod Acks
 pub mod Failures
 pub mod Held
+pub mod Laws
 pub mod Packed
 pub mod Responses
 pub mod Steps
