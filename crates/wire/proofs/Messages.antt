@@ -1,6 +1,6 @@
 -- A message read field by field: what a loop has read so far, and what each turn adds. Assumes nothing.
 use mathlib.Core.Path.{_≡_, refl, sym, ap, subst, _∙_}
-use mathlib.Core.Bool.{cond}
+use mathlib.Core.Bool.{Bool, true, false, cond}
 use mathlib.Core.List.{List}
 use Prim.Native.Nat.{ℕ, zero, suc, _+_, _≤_, _<_}
 use native.Mathlib.Omega.{arith}
@@ -72,3 +72,26 @@ module _ {S : Type 0} {merge : S → WireField → Result S Fault} {size : S →
             small = omega (arith, f .small);
             within = le;
           }
+
+-- a map between two states that each field respects: a message read into the one is the other's, mapped
+module _ {S T : Type 0} (h : S → T) (mergeS : S → WireField → Result S Fault) (mergeT : T → WireField → Result T Fault) (same : (s : S) (f : WireField) → mergeT (h s) f ≡ andThen (mergeS s f) (λ t. Ok (h t))) where
+  mapped-from : (k : ℕ) (s : S) (at : ℕ) (bs : List ℕ) → decodeFrom mergeT k (h s) at bs ≡ andThen (decodeFrom mergeS k s at bs) (λ t. Ok (h t))
+  mapped-from zero s at bs = refl
+  mapped-from (suc k) s at bs = turns (λ t next. mapped-from k t next bs) (ltb at (length bs)) (inPlace at (readField at bs))
+    where
+      joins : (next : ℕ) → ((t : S) → decodeFrom mergeT k (h t) next bs ≡ andThen (decodeFrom mergeS k t next bs) (λ u. Ok (h u))) → (m : Result S Fault)
+          → andThen (inPlace at (andThen m (λ t. Ok (h t)))) (λ u. decodeFrom mergeT k u next bs)
+          ≡ andThen (andThen (inPlace at m) (λ t. decodeFrom mergeS k t next bs)) (λ t. Ok (h t))
+      joins next on (Ok t) = on t
+      joins next on (Err e) = refl
+
+      turns : ((t : S) (next : ℕ) → decodeFrom mergeT k (h t) next bs ≡ andThen (decodeFrom mergeS k t next bs) (λ u. Ok (h u))) → (b : Bool) (r : Result (WireField × ℕ) DecodeError)
+          → cond b (andThen r (λ x. andThen (inPlace at (mergeT (h s) (x .0))) (λ u. decodeFrom mergeT k u (x .1) bs))) (Ok (h s))
+          ≡ andThen (cond b (andThen r (λ x. andThen (inPlace at (mergeS s (x .0))) (λ t. decodeFrom mergeS k t (x .1) bs))) (Ok s)) (λ t. Ok (h t))
+      turns on true (Ok x) = ap (λ z. andThen (inPlace at z) (λ u. decodeFrom mergeT k u (x .1) bs)) (same s (x .0)) ∙ joins (x .1) (λ t. on t (x .1)) (mergeS s (x .0))
+      turns on true (Err e) = refl
+      turns on false r = refl
+
+  pub decoded-map : (s : S) (bs : List ℕ) → decoded mergeT (h s) bs ≡ andThen (decoded mergeS s bs) (λ t. Ok (h t))
+  unfolding decoded
+  decoded-map s bs = mapped-from (length bs) s 0 bs

@@ -1,0 +1,4 @@
+pub mod Judges
+pub mod Positions
+pub mod Tallies
+pub mod Walks

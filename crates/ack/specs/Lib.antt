@@ -1,0 +1,9 @@
+pub mod Acks
+pub mod Failures
+pub mod Held
+pub mod Laws
+pub mod Packed
+pub mod Responses
+pub mod Steps
+pub mod Tally
+pub mod Verdicts
