@@ -1,2 +1,3 @@
 pub mod Sizes
 pub mod Accepted
+pub mod Sums
