@@ -1,2 +1,3 @@
 pub mod Chunks
+pub mod Headers
 pub mod Same

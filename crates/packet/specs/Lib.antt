@@ -1,3 +1,4 @@
 pub mod Sizes
 pub mod Accepted
 pub mod Sums
+pub mod Header
