@@ -2,3 +2,4 @@ pub mod Sizes
 pub mod Accepted
 pub mod Sums
 pub mod Header
+pub mod Frame

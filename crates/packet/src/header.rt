@@ -1,5 +1,6 @@
 //! The header of a packet: `PacketHeaderProto`, of datatransfer.proto.
 ghost use mathlib.Core.Path.{_≡_};
+ghost use Prim.Native.Nat.{_≤_};
 ghost use lib.ListN.{length};
 ghost use Rattle.packet.specs.Header.{headerOf, headerLength, plainOctets};
 
@@ -27,8 +28,16 @@ impl PacketHeader {
     pub fn encoded_len(&self) -> usize
         ensures { λ r. ⌜ r ≡ length (headerOf (now (self .entry))) ⌝ }
     {
-        if self.last { 27 } else { PLAIN_LEN }
+        header_len(self.last)
     }
+}
+
+/// How many octets a header is written as: that of the last packet has one field more.
+pub(crate) fn header_len(last: bool) -> usize
+    ensures value { λ r. ⌜ r ≡ headerLength last ⌝ }
+    ensures within { λ r. ⌜ r ≤ 27 ⌝ }
+{
+    if last { 27 } else { PLAIN_LEN }
 }
 
 // Fills `out` with the fields that every header has.
