@@ -1,4 +1,5 @@
 pub mod Chunks
 pub mod Frames
 pub mod Headers
+pub mod Reading
 pub mod Same

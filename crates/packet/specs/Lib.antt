@@ -3,3 +3,4 @@ pub mod Accepted
 pub mod Sums
 pub mod Header
 pub mod Frame
+pub mod Reading

@@ -8,7 +8,7 @@ ghost use Rattle.packet.specs.Header.{headerOf, headerLength, plainOctets};
 pub const HEART_BEAT_SEQNO: u64 = 0xffff_ffff_ffff_ffff;
 
 /// The octets of a header's first four fields.
-const PLAIN_LEN: usize = 25;
+pub(crate) const PLAIN_LEN: usize = 25;
 
 /// The header of a packet. The offset and the number are signed numbers, held as the 64 bits that carry them.
 #[derive(Clone, Copy, Debug, PartialEq, Eq)]

@@ -6,7 +6,7 @@ ghost use Rattle.packet.specs.Sizes.{chunksOf};
 pub mod settings;
 
 /// A chunk size and a packet size that were accepted, and how many chunks a packet has by them.
-#[derive(Clone, Copy)]
+#[derive(Clone, Copy, Debug, PartialEq, Eq)]
 pub struct PacketSize {
     chunk: u32,
     packet: u32,
