@@ -4,7 +4,11 @@ use crate::frame::write_frame;
 use crate::header::HEART_BEAT_SEQNO;
 use crate::read::read_frame;
 use crate::size::PacketSize;
+use crate::size::PacketSizeDebug;
+use crate::size::PacketSizePartialEq;
 use crate::size::settings::SizeError;
+use crate::size::settings::SizeErrorDebug;
+use crate::size::settings::SizeErrorPartialEq;
 use crate::sums::sums_match;
 use std::test::*;
 
