@@ -10,7 +10,23 @@ pub mod settings;
 pub struct PacketSize {
     chunk: u32,
     packet: u32,
-    chunks: u32,
-    ghost counted: { chunks ≡ chunksOf 4 chunk packet },
-    ghost bounds: { (0 < chunk) × (chunk ≤ 1_048_576) × (0 < chunks) × (chunks ≤ 16_777_216) },
+    count: u32,
+    ghost counted: { count ≡ chunksOf 4 chunk packet },
+    ghost bounds: { (0 < chunk) × (chunk ≤ 1_048_576) × (0 < count) × (count ≤ 16_777_216) },
+}
+
+impl PacketSize {
+    /// How many bytes a chunk has.
+    pub fn chunk_size(&self) -> u32
+        ensures { λ r. ⌜ r ≡ now (self .entry) .chunk ⌝ }
+    {
+        self.chunk
+    }
+
+    /// How many chunks a packet has.
+    pub fn chunks(&self) -> u32
+        ensures { λ r. ⌜ r ≡ chunksOf 4 (now (self .entry) .chunk) (now (self .entry) .packet) ⌝ }
+    {
+        self.count
+    }
 }

@@ -1,7 +1,7 @@
 //! Packet arithmetic.
 ghost use mathlib.Core.Path.{_≡_};
 ghost use Rattle.packet.specs.Accepted.{settings, settingsOf};
-ghost use Rattle.packet.specs.Sizes.{chunksOf, capacityOf, firstCapacityOf, frameCapacityOf};
+ghost use Rattle.packet.specs.Sizes.{capacityOf, firstCapacityOf, frameCapacityOf};
 use crate::size::PacketSize;
 
 /// The octets kept for the lengths and the header of a frame.
@@ -36,7 +36,7 @@ impl PacketSize {
             return Ok(PacketSize {
                 chunk: chunk_size,
                 packet: 0,
-                chunks: 1,
+                count: 1,
             });
         }
         if packet_size < MAX_PACKET_HEADER_SIZE + chunk_on_wire || packet_size > MAX_PACKET_SIZE {
@@ -45,28 +45,15 @@ impl PacketSize {
         Ok(PacketSize {
             chunk: chunk_size,
             packet: packet_size,
-            chunks: (packet_size - MAX_PACKET_HEADER_SIZE) / chunk_on_wire,
+            count: (packet_size - MAX_PACKET_HEADER_SIZE) / chunk_on_wire,
         })
-    }
-
-    pub fn chunk_size(&self) -> u32
-        ensures { λ r. ⌜ r ≡ now (self .entry) .chunk ⌝ }
-    {
-        self.chunk
-    }
-
-    /// How many chunks a packet has.
-    pub fn chunks(&self) -> u32
-        ensures { λ r. ⌜ r ≡ chunksOf 4 (now (self .entry) .chunk) (now (self .entry) .packet) ⌝ }
-    {
-        self.chunks
     }
 
     /// How many bytes a packet takes.
     pub fn capacity(&self) -> usize
         ensures { λ r. ⌜ r ≡ capacityOf 4 (now (self .entry) .chunk) (now (self .entry) .packet) ⌝ }
     {
-        self.chunks as usize * self.chunk as usize
+        self.count as usize * self.chunk as usize
     }
 
     /// How many bytes the first packet takes, of a block that has `initial_length` bytes when it is opened.
@@ -86,6 +73,6 @@ impl PacketSize {
         ensures { λ r. ⌜ r ≡ frameCapacityOf 4 (now (self .entry) .chunk) (now (self .entry) .packet) ⌝ }
     {
         let chunk_on_wire = self.chunk as usize + CHECKSUM_BYTES as usize;
-        MAX_PACKET_HEADER_SIZE as usize + self.chunks as usize * chunk_on_wire
+        MAX_PACKET_HEADER_SIZE as usize + self.count as usize * chunk_on_wire
     }
 }
