@@ -4,3 +4,4 @@ pub mod Sums
 pub mod Header
 pub mod Frame
 pub mod Reading
+pub mod Room

@@ -7,6 +7,7 @@ ghost use lib.ListN.{length};
 ghost use Rattle.std.specs.declared.option.Option.the-variants.{Some, None};
 ghost use Rattle.packet.specs.Frame.{lengths, summed, frameOf, endIn, over};
 ghost use Rattle.packet.specs.Header.{headerLength};
+ghost use Rattle.packet.specs.Room.{FramesFit, FirstWithin};
 ghost use Rattle.packet.specs.Sums.{chunkCount};
 use crate::header::PacketHeader;
 use crate::header::header_len;
@@ -93,4 +94,11 @@ pub fn write_frame(buf: &mut [u8], packet: WritePacket<'_>, chunk_size: u32) -> 
     }
     put_frame(&mut buf[0..end], packet, chunk_size, sums);
     Some(end)
+}
+
+/// By accepted sizes every packet within its capacity, the first packet too, is framed in a buffer of the frame capacity.
+pub fn room_stands() -> u8
+    ensures { λ _. ⌜ FramesFit × FirstWithin ⌝ }
+{
+    0
 }
