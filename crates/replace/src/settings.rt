@@ -131,12 +131,12 @@ mod tests {
 
     #[test]
     fn switched_off() -> Result<(), Fail> {
-        let mut settings = Settings::new();
-        settings.set(
+        let mut site = Settings::new();
+        site.set(
             "dfs.client.block.write.replace-datanode-on-failure.enable",
             "yes",
         );
-        check(!settings.replace_datanode().should_replace(3, 1, 0))
+        check(!site.replace_datanode().should_replace(3, 1, 0))
     }
 
     #[test]
