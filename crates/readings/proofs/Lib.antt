@@ -1,0 +1,5 @@
+pub mod Scan
+pub mod Slots
+pub mod Limits
+pub mod Big
+pub mod Back

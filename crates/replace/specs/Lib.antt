@@ -1,0 +1,3 @@
+pub mod Decision
+pub mod Names
+pub mod Listed
