@@ -1,3 +1,4 @@
 pub mod Decision
 pub mod Names
 pub mod Listed
+pub mod Choice
