@@ -3,3 +3,4 @@ pub mod Messages
 pub mod Requests
 pub mod Rules
 pub mod Stages
+pub mod Setups

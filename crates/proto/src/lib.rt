@@ -6,6 +6,7 @@ pub mod form;
 pub mod parts;
 pub mod request;
 mod rules;
+pub mod setup;
 pub mod stage;
 pub mod targets;
 pub mod token;
