@@ -8,7 +8,7 @@ use native.Mathlib.Omega.{arith}
 use lib.Dec.{eqb, ltb}
 use lib.ListN.{length, getD, drop}
 use Rattle.std.proofs.shelf.Lists.{append-assoc, drop-drop, nil-from-length}
-use Rattle.std.proofs.shelf.Tests.{cond-false, cond-both, eq-eqb, ne-eqb, eqb-true, or-cases, or-left, both-ways, not-false}
+use Rattle.std.proofs.shelf.Tests.{cond-false, cond-both, eq-eqb, ne-eqb, eqb-true, or-cases, or-left, or-right, both-ways, not-false}
 use Rattle.std.specs.declared.result.Result.{Result}
 use Rattle.std.specs.declared.result.Result.the-variants.{Ok, Err}
 use Rattle.wire.specs.declared.field.Fault.{Fault}
@@ -67,9 +67,14 @@ highest-from (s ∷ ss) at d p h = step (eqb s 0) (highest-from ss (at + 1)) h
         (λ e. i at p e)
         (or-cases (eqb at p) (has (failures (at + 1) ss) p) g)
 
+last-is-one : (xs : List ℕ) (d : ℕ) → (length xs ≡ 0 → ⊥) → has xs (lastOf d xs) ≡ true
+last-is-one [] d h = absurd (h refl)
+last-is-one (x ∷ []) d h = or-left (eqb x x) false (eq-eqb x x refl)
+last-is-one (x ∷ (y ∷ ys)) d h = or-right (eqb x (lastOf y ys)) (has (y ∷ ys) (lastOf y ys)) (last-is-one (y ∷ ys) x (λ e. omega arith))
+
 pub highest-failed : HighestPosition
 unfolding failedNodes
-highest-failed codes p h = highest-from (known codes) 0 0 p h
+highest-failed codes = (λ p h. highest-from (known codes) 0 0 p h, λ h. last-is-one (failures 0 (known codes)) 0 h)
 
 pub passing : Passing
 unfolding failedNodes

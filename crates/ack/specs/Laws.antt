@@ -23,9 +23,11 @@ RepliesJoin = (a : AckFields) (ms ns : List ℕ) → joined (joined a (replies m
 abbrev pub FailedPositions : Type 0
 FailedPositions = (statuses : List ℕ) (position : ℕ) → has (failures 0 statuses) position ≡ not (eqb (getD statuses position 0) 0)
 
--- no failed position is above the highest
+-- no failed position is above the highest, and that one failed where any did
 abbrev pub HighestPosition : Type 0
-HighestPosition = (codes : List ℕ) (position : ℕ) → has (failures 0 (known codes)) position ≡ true → position ≤ failedNodes codes .highest
+HighestPosition = (codes : List ℕ)
+    → ((position : ℕ) → has (failures 0 (known codes)) position ≡ true → position ≤ failedNodes codes .highest)
+    × ((failedNodes codes .count ≡ 0 → ⊥) → has (failures 0 (known codes)) (failedNodes codes .highest) ≡ true)
 
 -- where none failed, every known status is SUCCESS
 abbrev pub Passing : Type 0
