@@ -1,3 +1,4 @@
+pub mod Back
 pub mod Encoded
 pub mod Front
 pub mod Groups
