@@ -1,14 +1,7 @@
-//! The messages of HDFS's data transfer: datanodes, tokens, blocks and the requests that carry them.
+//! What requests are made of: datanodes, tokens, blocks and the header that all requests begin with, and the form that these must have.
 pub mod block;
 pub mod datanode;
 pub mod fixed;
 pub mod form;
-pub mod parts;
-pub mod request;
 mod rules;
-pub mod setup;
-pub mod stage;
-pub mod targets;
 pub mod token;
-pub mod transfer_block;
-pub mod write_block;

@@ -1,9 +1,0 @@
-use native.Mathlib.Omega.{arith}
-use Rattle.proto.proofs.Bounds.{transfer-bound}
-use Rattle.proto.proofs.request.TransferBlockRequest.message_len.Needs as need
-
-pub encoded-len-requires : need.encoded-len-requires
-encoded-len-requires c κs = omega (arith, transfer-bound (c .args .self .now))
-
-pub returns : need.returns
-returns c = record { value = c .encoded-len .ensures; bound = omega (arith, transfer-bound (c .args .self .now), c .encoded-len .ensures) }
