@@ -3,8 +3,10 @@ use mathlib.Core.Bool.{cond}
 use mathlib.Core.List.{List}
 use Prim.Native.Nat.{ℕ, _-_, _^_}
 use lib.Dec.{eqb}
+use Rattle.std.specs.declared.option.Option.{Option}
+use Rattle.std.specs.declared.option.Option.the-variants.{Some, None}
 use Rattle.std.specs.declared.result.Result.{Result}
-use Rattle.std.specs.declared.result.Result.the-variants.{Ok}
+use Rattle.std.specs.declared.result.Result.the-variants.{Ok, Err}
 use Rattle.wire.specs.declared.field.DecodeError.{DecodeError}
 use Rattle.wire.specs.Read.{andThen}
 use Rattle.ack.specs.declared.tally.FailedNodes.{FailedNodes}
@@ -25,3 +27,11 @@ judged a = verdictOf (a .seqno) (failedNodes (a .codes))
 
 unfoldable pub verdictOn : List ℕ → Result Verdict DecodeError
 verdictOn bs = andThen (ackOf bs) (λ a. Ok (judged a))
+
+-- the number of an answer that passes
+abbrev pub numberIf : Result AckFields DecodeError → Option ℕ
+numberIf (Ok a) = cond (eqb (failedNodes (a .codes) .count) 0) (Some (a .seqno)) None
+numberIf (Err e) = None
+
+unfoldable pub passes : List ℕ → Option ℕ
+passes bs = numberIf (ackOf bs)

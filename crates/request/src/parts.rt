@@ -1,8 +1,6 @@
 //! The two requests' messages, part by part.
 ghost use mathlib.Core.Path.{_≡_};
 ghost use Rattle.request.specs.Requests.{constructionFields, constructionOf, storageFields, writeFields, transferFields};
-use proto::block::ClientOperationHeaderMessage;
-use proto::datanode::Datanode;
 use crate::stage::Stage;
 use crate::targets::TargetInfo;
 use crate::targets::TargetInfoField;
@@ -12,6 +10,8 @@ use crate::targets::TargetStorageType;
 use crate::targets::TargetStorageTypeField;
 use crate::transfer_block::TransferBlock;
 use crate::write_block::WriteBlock;
+use proto::block::ClientOperationHeaderMessage;
+use proto::datanode::Datanode;
 use wire::encode::Bytes;
 use wire::encode::BytesMessage;
 use wire::encode::Each;

@@ -2,9 +2,9 @@
 ghost use Prim.Native.Nat.{_≤_};
 ghost use lib.ListN.{length};
 ghost use denote.Ref.{now};
+use crate::stage::Stage;
 use proto::block::ClientOperationHeader;
 use proto::datanode::Datanode;
-use crate::stage::Stage;
 
 /// A pipeline to be set up: its first datanode, which the request is sent to, and those behind it, of which there are at most seven.
 #[derive(Clone, Copy)]
