@@ -7,3 +7,4 @@ pub mod Responses
 pub mod Steps
 pub mod Tally
 pub mod Verdicts
+pub mod Written

@@ -6,3 +6,4 @@ pub mod response;
 pub mod tally;
 #[cfg(test)]
 mod tests;
+pub mod write;
