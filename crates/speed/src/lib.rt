@@ -1,11 +1,12 @@
 //! The sums and the frames of packets, for Rust and C to call: a slice passes as a pointer and a length.
 //! The benchmark measures the code below through these functions.
 ghost use mathlib.Core.Path.{_≡_};
+ghost use Rattle.std.specs.Options.{valueOr};
 ghost use Rattle.std.specs.shelf.Text.{sameBytes};
 ghost use Rattle.crc.specs.Crc.{sumOf};
-ghost use Rattle.packet.specs.Frame.{over};
+ghost use Rattle.packet.specs.Frame.{endIn, over};
 ghost use Rattle.packet.specs.Sums.{sumsOf};
-ghost use Rattle.speed.specs.Framed.{packetOf, taken};
+ghost use Rattle.speed.specs.Framed.{packetOf};
 use packet::frame::WritePacket;
 use packet::frame::write_frame;
 use packet::sums::sums_match;
@@ -27,7 +28,7 @@ pub extern "C" fn speed_sums_match(sums: &[u8], data: &[u8], chunk_size: u32) ->
 }
 
 /// Writes the frame of a packet to the front of `buf`, with the sums of its chunks, and says how many octets it took.
-/// 0 says that it does not fit, and that `buf` is as it was.
+/// No frame is empty: 0 says that it does not fit, and that `buf` is as it was.
 #[unsafe(no_mangle)]
 pub extern "C" fn speed_write_frame(
     buf: &mut [u8],
@@ -37,7 +38,7 @@ pub extern "C" fn speed_write_frame(
     data: &[u8],
     chunk_size: u32,
 ) -> usize
-    ensures value { λ r. ⌜ r ≡ taken (packetOf «chunk_size» offset seqno last (now («data» .entry))) (now (buf .entry)) ⌝ }
+    ensures value { λ r. ⌜ r ≡ valueOr (endIn (packetOf «chunk_size» offset seqno last (now («data» .entry))) (now (buf .entry))) 0 ⌝ }
     ensures after { λ _. ⌜ now (buf .exit) ≡ over (packetOf «chunk_size» offset seqno last (now («data» .entry))) (now (buf .entry)) ⌝ }
 {
     let packet = WritePacket {
@@ -46,8 +47,5 @@ pub extern "C" fn speed_write_frame(
         last,
         data,
     };
-    match write_frame(buf, packet, chunk_size) {
-        Some(end) => end,
-        None => 0,
-    }
+    write_frame(buf, packet, chunk_size).unwrap_or(0)
 }
