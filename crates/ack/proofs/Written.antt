@@ -3,13 +3,14 @@ use mathlib.Core.Path.{_≡_, refl, sym, ap, _∙_}
 use mathlib.Core.Bool.{cond, true}
 use mathlib.Core.Logic.{⊎-elim}
 use mathlib.Core.List.{List, [], _∷_, _++_, map}
-use Prim.Native.Nat.{ℕ, _+_, _-_, _*_, _/_, _%_, _^_, _≤_, _<_}
+use Prim.Native.Nat.{ℕ, zero, suc, _+_, _-_, _*_, _/_, _%_, _^_, _≤_, _<_}
 use native.Mathlib.Nat.{mul-le-mul-right}
 use native.Mathlib.Omega.{arith}
 use lib.Dec.{ltb, eqb}
-use lib.ListN.{length}
+use lib.ListN.{length, replicate}
 use Rattle.std.proofs.shelf.Lists.{append-assoc, append-nil}
 use Rattle.std.proofs.shelf.Tests.{cond-true, cond-false, lt-ltb, le-ltb, eq-eqb, ne-eqb, cases-lt}
+use Rattle.std.specs.declared.option.Option.the-variants.{Some}
 use Rattle.std.specs.declared.result.Result.{Result}
 use Rattle.std.specs.declared.result.Result.the-variants.{Ok, Err}
 use Rattle.wire.specs.declared.field.DecodeError.{DecodeError}
@@ -20,6 +21,8 @@ use Rattle.wire.specs.Read.{decoded}
 use Rattle.wire.proofs.Back.{decode-back}
 use Rattle.wire.proofs.Lengths.{number-bound, all-length, rows-bound}
 use Rattle.ack.specs.Acks.{AckFields, zigzag, mergeAck, noFields, ackOf}
+use Rattle.ack.specs.Failures.{known, failures, failedNodes}
+use Rattle.ack.specs.Verdicts.{numberIf, passes}
 use Rattle.ack.specs.Written.{zag, answerFields, answerOctets, Octet}
 
 pub answer-bound : (seqno : ℕ) (replies : List ℕ) → length replies ≤ 8 → length (encodeAll (answerFields seqno replies)) ≤ 99
@@ -77,3 +80,18 @@ read-back seqno replies h o =
     ∙ adds replies (zigzag (zag seqno)) []
     ∙ ap (λ z. Ok (record { seqno = z; codes = replies })) (zigzag-zag seqno h)
     )
+
+-- nodes that all replied 0 have not failed, so the answer passes
+zeros : (k : ℕ) → Octet (replicate k 0)
+zeros zero = tt
+zeros (suc k) = (omega arith, zeros k)
+
+no-failures : (k at : ℕ) → failures at (known (replicate k 0)) ≡ []
+no-failures zero at = refl
+no-failures (suc k) at = no-failures k (at + 1)
+
+pub good-passes : (seqno k : ℕ) → seqno < 2 ^ 64 → passes (answerOctets seqno (replicate k 0)) ≡ Some seqno
+unfolding passes failedNodes
+good-passes seqno k h =
+    let e = ap length (no-failures k 0) in
+    ap numberIf (read-back seqno (replicate k 0) h (zeros k)) ∙ cond-true _ _ _ (eq-eqb _ 0 e)
