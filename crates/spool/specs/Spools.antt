@@ -85,3 +85,7 @@ confirmsFirst v = confirmsFrom v (v .held)
 -- a frame of the program as the packet that it carries
 abbrev pub packetOf : Frame → Packet
 packetOf f = record { offset = f .offset; seqno = f .seqno; last = f .last; sums = f .sums .now; bytes = f .«data» .now }
+
+-- a new spool keeps what its buffer has, and has not been set up
+abbrev pub fresh : List ℕ → ℕ → View
+fresh bytes room = record { bytes = bytes; held = []; kept = length bytes; limit = room; nodes = 0; chunk = 0 }
