@@ -1,6 +1,9 @@
 pub mod Back
 pub mod Encoded
+pub mod Found
 pub mod Front
 pub mod Groups
 pub mod Messages
+pub mod Shortest
+pub mod Values
 pub mod Varints
