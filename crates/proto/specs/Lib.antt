@@ -1,3 +1,4 @@
 pub mod Form
+pub mod FormLaw
 pub mod Messages
 pub mod Rules

@@ -1,6 +1,7 @@
 //! The form that messages from outside must have: as prost writes them, with tags that rise, shortest varints and no unknown field.
 ghost use mathlib.Core.Path.{_≡_};
 ghost use Rattle.proto.specs.Form.{isText, fits, absent, ruleAt, formOf};
+ghost use Rattle.proto.specs.FormLaw.{FormsStand, TablesRise};
 ghost use Rattle.wire.specs.Read.{wire};
 use wire::field::Field;
 use wire::field::read_field;
@@ -101,4 +102,13 @@ pub fn conforms(rules: &[Rule], input: &[u8]) -> bool
         at = next;
     }
     at == input.len()
+}
+
+/// What `conforms` takes are just the messages written from fields that their table allows, in its order, for every table whose
+/// tags rise, as those of datanodes and tokens do.
+pub fn forms_stand() -> u8
+    ensures form { λ _. ⌜ FormsStand ⌝ }
+    ensures tables { λ _. ⌜ TablesRise ⌝ }
+{
+    0
 }

@@ -108,7 +108,7 @@ construction-bound c =
       number-bound 8 1 s refl,
     )
 
-checksum-bound : (n : ℕ) → length (encodeAll (checksumFields n)) ≤ 22
+pub checksum-bound : (n : ℕ) → length (encodeAll (checksumFields n)) ≤ 22
 unfolding varintBytes
 checksum-bound n = omega (arith, all-length (varint 1 2) (varint 2 n ∷ []), all-length (varint 2 n) [], none-length, number-bound 1 1 2 refl, number-bound 2 1 n refl)
 

@@ -1,3 +1,4 @@
 pub mod Requests
+pub mod SetupLaw
 pub mod Setups
 pub mod Stages

@@ -95,7 +95,7 @@ little-back (suc k) n h =
     let less : n / 256 < 256 ^ k = div-lt-iff-lt-mul {k = 256} {x = n} {y = 256 ^ k} (omega arith) .1 (omega arith) in
     ap (λ z. n % 256 + 256 * z) (little-back k (n / 256) less) ∙ omega arith
 
-little-long : (k n : ℕ) → length (little k n) ≡ k
+pub little-long : (k n : ℕ) → length (little k n) ≡ k
 little-long zero n = refl
 little-long (suc k) n = ap suc (little-long k (n / 256))
 
@@ -138,10 +138,10 @@ key-back tag kind before rest h t =
 
 -- the octets up to a place, and those from there on
 module _ (before front rest : List ℕ) where
-  regroup : before ++ (front ++ rest) ≡ (before ++ front) ++ rest
+  pub regroup : before ++ (front ++ rest) ≡ (before ++ front) ++ rest
   regroup = sym (append-assoc before front rest)
 
-  joined : length before + length front ≡ length (before ++ front)
+  pub joined : length before + length front ≡ length (before ++ front)
   joined = sym (length-append before front)
 
 -- what follows the key of a part
@@ -205,7 +205,7 @@ some-octet n =
     (λ ge. omega (arith, ap length (cond-false (ltb n 128) (n ∷ []) ((n % 128 + 128) ∷ groups 9 (n / 128)) (le-ltb n 128 ge))))
     (cases-lt n 128)
 
-some-octets : (f : WireField) → 1 ≤ length (encode f)
+pub some-octets : (f : WireField) → 1 ≤ length (encode f)
 some-octets (varint tag n) = omega (arith, varint-octets tag n, some-octet (8 * tag + 0))
 some-octets (fixed64 tag n) = omega (arith, fixed64-octets tag n)
 some-octets (part tag bs) = omega (arith, part-octets tag bs, prefix-length tag (length bs), some-octet (8 * tag + 2))

@@ -1,7 +1,10 @@
 pub mod Back
 pub mod Encoded
+pub mod Found
 pub mod Front
 pub mod Groups
 pub mod Lengths
 pub mod Messages
+pub mod Shortest
+pub mod Values
 pub mod Varints
