@@ -27,7 +27,8 @@ use Rattle.request.specs.Requests.{checksumFields, constructionFields, constru
 use Rattle.request.specs.SetupLaw.{setupFor, Widths}
 use Rattle.request.specs.Setups.{noSetup, stampIn, mergeSetup, measured, messageOf, wellRead, setupIn, setupOf}
 use Rattle.request.specs.Stages.{stageNumber}
-use Rattle.request.proofs.Bounds.{all-length, held-bound, block-bound, header-bound, checksum-bound, write-bound}
+use Rattle.wire.proofs.Lengths.{all-length}
+use Rattle.request.proofs.Bounds.{held-bound, block-bound, header-bound, checksum-bound, write-bound}
 
 -- the message behind version, code and length
 pub unframed : (code : ℕ) (message : List ℕ) → length message < 2 ^ 64 → messageOf code (framed code message) ≡ Some message
