@@ -2,7 +2,7 @@
 ghost use mathlib.Core.Path.{_≡_};
 ghost use Prim.Native.Nat.{_<_};
 ghost use Rattle.std.specs.declared.option.Option.the-variants.{Some, None};
-ghost use Rattle.vectors.specs.Hex.{digitOf};
+ghost use Rattle.vectors.specs.Hex.{digitOf, octetOf};
 use crate::error::LineError;
 use crate::error::LineErrorFromRefused;
 use std::alloc::Global;
@@ -20,7 +20,9 @@ fn digit(b: u8) -> Option<u8>
 }
 
 // The octet of two digits.
-fn octet(high: u8, low: u8) -> Result<u8, LineError> {
+fn octet(high: u8, low: u8) -> Result<u8, LineError>
+    ensures { λ r. ⌜ r ≡ octetOf high low ⌝ }
+{
     let Some(high) = digit(high) else {
         return Err(LineError::Form);
     };

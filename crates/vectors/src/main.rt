@@ -28,26 +28,16 @@ fn report(rt: &impl Print, tally: Tally) -> io::Result<()> {
     println!(rt, "lines that differ {}", tally.differing)
 }
 
-// Counts a line, and prints it by its number where it differs or cannot be read.
+// Prints a line by its number where it differs or cannot be run.
 fn note(
     rt: &impl Print,
-    tally: &mut Tally,
     number: usize,
     outcome: Result<(Kind, bool), LineError>,
 ) -> io::Result<()> {
     match outcome {
-        Ok((kind, true)) => {
-            tally.agreed(kind);
-            Ok(())
-        }
-        Ok((kind, false)) => {
-            tally.differed();
-            println!(rt, "line {number} differs: {kind:?}")
-        }
-        Err(error) => {
-            tally.differed();
-            println!(rt, "line {number} cannot be run: {error:?}")
-        }
+        Ok((_, true)) => Ok(()),
+        Ok((kind, false)) => println!(rt, "line {number} differs: {kind:?}"),
+        Err(error) => println!(rt, "line {number} cannot be run: {error:?}"),
     }
 }
 
@@ -56,12 +46,13 @@ fn main(rt: LibcRuntime) -> io::Result<()> {
     let mut tally = Tally::new();
     for (i, text) in BufReader::new(rt.stdin()).lines(heap).enumerate() {
         let text = text?;
-        note(
-            &rt,
-            &mut tally,
-            i.saturating_add(1),
-            line::run(heap, text.as_str()),
-        )?;
+        let outcome = line::run(heap, text.as_str());
+        tally = match outcome {
+            Ok((kind, true)) => tally.agreed(kind),
+            Ok((_, false)) => tally.differed(),
+            Err(_) => tally.differed(),
+        };
+        note(&rt, i.saturating_add(1), outcome)?;
     }
     report(&rt, tally)
 }

@@ -1,5 +1,6 @@
 //! How many lines of each kind agree.
 ghost use mathlib.Core.Path.{_≡_};
+ghost use Rattle.vectors.specs.Tallies.{nothing, agreedOn, differedIn};
 
 /// What a line of the table is a vector of.
 #[derive(Clone, Copy, Debug, PartialEq, Eq)]
@@ -23,7 +24,9 @@ pub struct Tally {
 }
 
 impl Tally {
-    pub fn new() -> Tally {
+    pub fn new() -> Tally
+        ensures { λ r. ⌜ r ≡ nothing ⌝ }
+    {
         Tally {
             frames: 0,
             writes: 0,
@@ -35,19 +38,40 @@ impl Tally {
     }
 
     /// Counts a line that agrees.
-    pub fn agreed(&mut self, kind: Kind) {
-        let count = match kind {
-            Kind::Frame => &mut self.frames,
-            Kind::Write => &mut self.writes,
-            Kind::Transfer => &mut self.transfers,
-            Kind::Answer => &mut self.answers,
-            Kind::Response => &mut self.responses,
-        };
-        *count = count.saturating_add(1);
+    pub fn agreed(self, kind: Kind) -> Tally
+        ensures { λ r. ⌜ r ≡ agreedOn self kind ⌝ }
+    {
+        match kind {
+            Kind::Frame => Tally {
+                frames: self.frames.saturating_add(1),
+                ..self
+            },
+            Kind::Write => Tally {
+                writes: self.writes.saturating_add(1),
+                ..self
+            },
+            Kind::Transfer => Tally {
+                transfers: self.transfers.saturating_add(1),
+                ..self
+            },
+            Kind::Answer => Tally {
+                answers: self.answers.saturating_add(1),
+                ..self
+            },
+            Kind::Response => Tally {
+                responses: self.responses.saturating_add(1),
+                ..self
+            },
+        }
     }
 
     /// Counts a line that does not.
-    pub fn differed(&mut self) {
-        self.differing = self.differing.saturating_add(1);
+    pub fn differed(self) -> Tally
+        ensures { λ r. ⌜ r ≡ differedIn self ⌝ }
+    {
+        Tally {
+            differing: self.differing.saturating_add(1),
+            ..self
+        }
     }
 }
