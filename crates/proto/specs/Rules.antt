@@ -38,7 +38,7 @@ unfoldable pub isDatanode : List ℕ → Bool
 isDatanode bs = leb (length bs) 256 && (formOf datanodeInfo bs && formOf datanodeId (partOf 1 bs))
 
 -- a datanode with the name of its storage, a text, and its type, 0 to 127
-unfoldable pub isNode : List ℕ → List ℕ → ℕ → Bool
+abbrev pub isNode : List ℕ → List ℕ → ℕ → Bool
 isNode info storage type = isDatanode info && (isText 64 storage && ltb type 128)
 
 -- a token is a TokenProto in form, of at most 1,024 octets

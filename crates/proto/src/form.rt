@@ -1,6 +1,6 @@
 //! The form that messages from outside must have: as prost writes them, with tags that rise, shortest varints and no unknown field.
 ghost use mathlib.Core.Path.{_≡_};
-ghost use Rattle.proto.specs.Form.{isText, fits, absent, ruleAt, formOf};
+ghost use Rattle.proto.specs.Form.{isAscii, isText, fits, absent, ruleAt, formOf};
 ghost use Rattle.proto.specs.FormLaw.{FormsStand, TablesRise};
 ghost use Rattle.wire.specs.Read.{wire};
 use wire::field::Field;
@@ -27,19 +27,23 @@ pub struct Rule {
     pub required: bool,
 }
 
-/// Whether these octets are a text: ASCII, and not longer than `limit`.
-pub fn is_text(bytes: &[u8], limit: usize) -> bool
-    ensures { λ r. ⌜ r ≡ isText limit (now (bytes .entry)) ⌝ }
+// Whether every octet is ASCII.
+fn is_ascii(bytes: &[u8]) -> bool
+    ensures { λ r. ⌜ r ≡ isAscii (now (bytes .entry)) ⌝ }
 {
-    if bytes.len() > limit {
-        return false;
-    }
     for b in bytes {
         if *b >= 0x80 {
             return false;
         }
     }
     true
+}
+
+/// Whether these octets are a text: ASCII, and not longer than `limit`.
+pub fn is_text(bytes: &[u8], limit: usize) -> bool
+    ensures { λ r. ⌜ r ≡ isText limit (now (bytes .entry)) ⌝ }
+{
+    bytes.len() <= limit && is_ascii(bytes)
 }
 
 impl Kind {
