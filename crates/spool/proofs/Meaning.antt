@@ -6,7 +6,7 @@ use Prim.Native.Nat.{ℕ, zero, suc, _+_, _-_, _^_, _≤_, _<_}
 use native.Mathlib.Nat.{zero-add, suc-add}
 use native.Mathlib.Omega.{arith}
 use lib.Dec.{eqb, ltb, leb}
-use lib.ListN.{length, take, drop}
+use lib.ListN.{length, take, drop, replicate}
 use Rattle.std.proofs.shelf.Lists.{length-take-le, length-drop, take-take, take-append-le, drop-append-le, drop-drop}
 use Rattle.std.proofs.shelf.Tests.{cond-true, cond-false, eqb-true, leb-true, ltb-true, and-parts, false≢true}
 use Rattle.std.specs.declared.option.Option.{Option}
@@ -53,13 +53,12 @@ module _ {v : View} (h : Whole v) where
   kept-long : length (take (v .kept) (v .bytes)) ≡ v .kept
   kept-long = length-take-le (v .kept) (v .bytes) kept-within
 
-  set-up : (q : Setup) (least : ℕ) → setsUp v (Some q) least ≡ true → (least ≤ v .kept) × (seenIn (rebuiltTo v least (q .«chunk_size»)) ≡ rebuilt q least (seenIn v))
+  set-up : (q : Setup) (least : ℕ) → setsUp v (Some q) least ≡ true → (least ≤ v .kept) × (seenIn (rebuiltTo v least (q .«pipeline_size») (q .«chunk_size»)) ≡ rebuilt q least (seenIn v))
   set-up q least e =
-      let one = eqb-true (q .«pipeline_size») 1 (and-parts (eqb (q .«pipeline_size») 1) (ltb (q .«chunk_size») (2 ^ 32) && leb least (v .kept)) e .0) in
-      let rest = and-parts (eqb (q .«pipeline_size») 1) (ltb (q .«chunk_size») (2 ^ 32) && leb least (v .kept)) e .1 in
+      let rest = and-parts (ltb 0 (q .«pipeline_size») && leb (q .«pipeline_size») (v .most)) (ltb (q .«chunk_size») (2 ^ 32) && leb least (v .kept)) e .1 in
       let enough = leb-true least (v .kept) (and-parts (ltb (q .«chunk_size») (2 ^ 32)) (leb least (v .kept)) rest .1) in
       let k = take-take least least (v .bytes) (omega arith) ∙ sym (take-take least (v .kept) (v .bytes) enough) in
-      (enough, λ i. record { kept = k i; pending = []; nodes = sym one i; chunk = q .«chunk_size» })
+      (enough, λ i. record { kept = k i; pending = []; nodes = q .«pipeline_size»; chunk = q .«chunk_size» })
 
   pub setting : (w : View) (request : List ℕ) (least : ℕ) (came : Option (List ℕ)) → calls.Sets v request least came w → SetsUp request least came (seenIn v) (seenIn w)
   setting w request least None e = ap seenIn e
@@ -106,13 +105,13 @@ module _ {v : View} (h : Whole v) where
   putting w frame taken (Some p, (r, t, e)) =
       put-some w frame p (eqb (p .seqno) (2 ^ 64 - 1)) (takes v p) refl refl r taken t e
 
--- an answer of the one node confirms the first packet that waits
-module _ (c k limit nodes : ℕ) (bytes : List ℕ) (p : Pending) (ps : List Pending) where
+-- an answer of all nodes confirms the first packet that waits
+module _ (c k limit most nodes : ℕ) (bytes : List ℕ) (p : Pending) (ps : List Pending) where
   abbrev before : View
-  before = record { bytes = bytes; held = p ∷ ps; kept = k; limit = limit; nodes = nodes; chunk = c }
+  before = record { bytes = bytes; held = p ∷ ps; kept = k; limit = limit; most = most; nodes = nodes; chunk = c }
 
-  confirming : Whole before → (w : View) (message : List ℕ) → message ≡ answerOctets (p .seqno) (0 ∷ []) → w ≡ confirmsFirst before → Nexts (answer message) (seenIn before) (seenIn w)
-  confirming h w message m e = by-number (passes message) (ap passes m ∙ good-passes (p .seqno) 1 small)
+  confirming : Whole before → (w : View) (message : List ℕ) → message ≡ answerOctets (p .seqno) (replicate nodes 0) → w ≡ confirmsFirst before → Nexts (answer message) (seenIn before) (seenIn w)
+  confirming h w message m e = by-number (passes message) (ap passes m ∙ good-passes (p .seqno) nodes small)
     where
       small : p .seqno < 2 ^ 64
       small = ltb-true _ _ (and-parts (ltb (p .seqno) (2 ^ 64)) (numbered ps) (h .widths) .0)
@@ -136,8 +135,8 @@ answering v w nothing h e = ap seenIn (e .1)
 answering v w lost h e = ap seenIn e
 answering v w (answer message) h e = by-held (v .held) h e
   where
-    by-held : (hs : List Pending) → Whole (record { bytes = v .bytes; held = hs; kept = v .kept; limit = v .limit; nodes = v .nodes; chunk = v .chunk })
-        → calls.AnswersFor hs (record { bytes = v .bytes; held = hs; kept = v .kept; limit = v .limit; nodes = v .nodes; chunk = v .chunk }) message w
-        → Nexts (answer message) (seenIn (record { bytes = v .bytes; held = hs; kept = v .kept; limit = v .limit; nodes = v .nodes; chunk = v .chunk })) (seenIn w)
+    by-held : (hs : List Pending) → Whole (record { bytes = v .bytes; held = hs; kept = v .kept; limit = v .limit; most = v .most; nodes = v .nodes; chunk = v .chunk })
+        → calls.AnswersFor hs (record { bytes = v .bytes; held = hs; kept = v .kept; limit = v .limit; most = v .most; nodes = v .nodes; chunk = v .chunk }) message w
+        → Nexts (answer message) (seenIn (record { bytes = v .bytes; held = hs; kept = v .kept; limit = v .limit; most = v .most; nodes = v .nodes; chunk = v .chunk })) (seenIn w)
     by-held [] g f = absurd f
-    by-held (p ∷ ps) g f = confirming (v .chunk) (v .kept) (v .limit) (v .nodes) (v .bytes) p ps g w message (f .0) (f .1)
+    by-held (p ∷ ps) g f = confirming (v .chunk) (v .kept) (v .limit) (v .most) (v .nodes) (v .bytes) p ps g w message (f .0) (f .1)

@@ -3,7 +3,7 @@ use mathlib.Core.Path.{_≡_}
 use mathlib.Core.Bool.{Bool, true, false, cond}
 use mathlib.Core.List.{List, [], _∷_, _++_}
 use Prim.Native.Nat.{ℕ, _<_, _≤_}
-use lib.ListN.{length, drop}
+use lib.ListN.{length, drop, replicate}
 use Rattle.std.specs.declared.option.Option.{Option}
 use Rattle.std.specs.declared.option.Option.the-variants.{Some, None}
 use Rattle.ack.specs.Written.{answerOctets}
@@ -26,7 +26,7 @@ responded before after None = (length before < 2) × (after ≡ before)
 
 -- a set up that is accepted is answered with status 0; any may be lost, which changes nothing
 abbrev pub SetsFor : Option Setup → View → ℕ → View → Type 0
-SetsFor (Some q) v least w = (setsUp v (Some q) least ≡ true) × (w ≡ rebuiltTo v least (q .«chunk_size»))
+SetsFor (Some q) v least w = (setsUp v (Some q) least ≡ true) × (w ≡ rebuiltTo v least (q .«pipeline_size») (q .«chunk_size»))
 SetsFor None v least w = ⊥
 
 abbrev pub Sets : View → List ℕ → ℕ → Option (List ℕ) → View → Type 0
@@ -37,10 +37,10 @@ Sets v request least None w = w ≡ v
 abbrev pub Puts : View → List ℕ → Bool → View → Type 0
 Puts v frame taken w = (p : Option Packet) × (Reads frame p × (taken ≡ putTaken v p) × (w ≡ putAfter v p))
 
--- the first pending packet is confirmed, by a good reply of the one node
+-- the first pending packet is confirmed, by a good reply of each node
 abbrev pub AnswersFor : List Pending → View → List ℕ → View → Type 0
 AnswersFor [] v message w = ⊥
-AnswersFor (p ∷ ps) v message w = (message ≡ answerOctets (p .seqno) (0 ∷ [])) × (w ≡ confirmsFirst v)
+AnswersFor (p ∷ ps) v message w = (message ≡ answerOctets (p .seqno) (replicate (v .nodes) 0)) × (w ≡ confirmsFirst v)
 
 abbrev pub Nexts : View → Came → View → Type 0
 Nexts v nothing w = (v .held ≡ []) × (w ≡ v)

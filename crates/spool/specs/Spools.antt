@@ -24,11 +24,12 @@ pub record View : Type 0 where
   pub held : List Pending
   pub kept : ℕ
   pub limit : ℕ
+  pub most : ℕ
   pub nodes : ℕ
   pub chunk : ℕ
 
 abbrev pub viewOf : Spool → View
-viewOf s = record { bytes = vec-items (s .bytes); held = vec-items (s .held); kept = s .kept; limit = s .limit; nodes = s .nodes; chunk = s .chunk }
+viewOf s = record { bytes = vec-items (s .bytes); held = vec-items (s .held); kept = s .kept; limit = s .limit; most = s .most; nodes = s .nodes; chunk = s .chunk }
 
 -- pending packets over their bytes, the first of which begins at that offset; their sums are right
 abbrev pub packetsFrom : ℕ → ℕ → List Pending → List ℕ → List Packet
@@ -40,13 +41,13 @@ packetsFrom c at (p ∷ ps) bs =
 abbrev pub seenIn : View → Seen
 seenIn v = record { kept = take (v .kept) (v .bytes); pending = packetsFrom (v .chunk) (v .kept) (v .held) (drop (v .kept) (v .bytes)); nodes = v .nodes; chunk = v .chunk }
 
--- a set up is for one node, over chunks whose size has 32 bits, and with no more bytes than are kept
+-- a set up is for as many nodes as may be, over chunks whose size has 32 bits, and with no more bytes than are kept
 abbrev pub setsUp : View → Option Setup → ℕ → Bool
 setsUp v None least = false
-setsUp v (Some q) least = eqb (q .«pipeline_size») 1 && (ltb (q .«chunk_size») (2 ^ 32) && leb least (v .kept))
+setsUp v (Some q) least = (ltb 0 (q .«pipeline_size») && leb (q .«pipeline_size») (v .most)) && (ltb (q .«chunk_size») (2 ^ 32) && leb least (v .kept))
 
-abbrev pub rebuiltTo : View → ℕ → ℕ → View
-rebuiltTo v least chunk = record { bytes = take least (v .bytes); held = []; kept = least; limit = v .limit; nodes = 1; chunk = chunk }
+abbrev pub rebuiltTo : View → ℕ → ℕ → ℕ → View
+rebuiltTo v least nodes chunk = record { bytes = take least (v .bytes); held = []; kept = least; limit = v .limit; most = v .most; nodes = nodes; chunk = chunk }
 
 -- a packet is taken where it begins at the end of what is there, its sums are right, and it finds a place and room
 abbrev pub takes : View → Packet → Bool
@@ -61,6 +62,7 @@ withPending v p = record {
   held = v .held ++ record { seqno = p .seqno; last = p .last; len = length (p .bytes) } ∷ [];
   kept = v .kept;
   limit = v .limit;
+  most = v .most;
   nodes = v .nodes;
   chunk = v .chunk;
 }
@@ -77,7 +79,7 @@ putAfter v (Some p) = cond (eqb (p .seqno) (2 ^ 64 - 1)) v (cond (takes v p) (wi
 -- the first pending packet is confirmed
 abbrev pub confirmsFrom : View → List Pending → View
 confirmsFrom v [] = v
-confirmsFrom v (p ∷ ps) = record { bytes = v .bytes; held = ps; kept = v .kept + p .len; limit = v .limit; nodes = v .nodes; chunk = v .chunk }
+confirmsFrom v (p ∷ ps) = record { bytes = v .bytes; held = ps; kept = v .kept + p .len; limit = v .limit; most = v .most; nodes = v .nodes; chunk = v .chunk }
 
 abbrev pub confirmsFirst : View → View
 confirmsFirst v = confirmsFrom v (v .held)
@@ -87,5 +89,5 @@ abbrev pub packetOf : Frame → Packet
 packetOf f = record { offset = f .offset; seqno = f .seqno; last = f .last; sums = f .sums .now; bytes = f .«data» .now }
 
 -- a new spool keeps what its buffer has, and has not been set up
-abbrev pub fresh : List ℕ → ℕ → View
-fresh bytes room = record { bytes = bytes; held = []; kept = length bytes; limit = room; nodes = 0; chunk = 0 }
+abbrev pub fresh : List ℕ → ℕ → ℕ → View
+fresh bytes room most = record { bytes = bytes; held = []; kept = length bytes; limit = room; most = most; nodes = 0; chunk = 0 }

@@ -2,7 +2,9 @@
 ghost use mathlib.Core.Path.{_≡_};
 ghost use mathlib.Core.Bool.{cond, _&&_};
 ghost use lib.Dec.{leb, eqb};
-ghost use lib.ListN.{length};
+ghost use Prim.Native.Nat.{_≤_};
+ghost use lib.ListN.{length, replicate};
+ghost use Rattle.ack.specs.Written.{answered};
 ghost use Rattle.std.specs.declared.option.Option.the-variants.{Some, None};
 ghost use Rattle.request.specs.Setups.{setupOf};
 ghost use Rattle.chain.specs.Acts.{Replied, Answered};
@@ -30,6 +32,15 @@ fn respond(answer: &mut [u8]) -> Option<usize>
     Some(2)
 }
 
+// An answer in which every node says that it has the packet.
+fn write_good(answer: &mut [u8], seqno: u64, nodes: usize) -> Option<usize>
+    requires { ⌜ nodes ≤ 8 ⌝ }
+    ensures { λ r. ⌜ answered seqno (replicate nodes 0) (now (answer .entry)) (now (answer .exit)) r ⌝ }
+{
+    let good = [0u8; 8];
+    write_ack(answer, seqno, &good[0..nodes])
+}
+
 pub impl Link for Spool as SpoolLink {
     ghost sets = { λ a node request least came b. Sets (viewOf a) request least came (viewOf b) };
 
@@ -49,13 +60,16 @@ pub impl Link for Spool as SpoolLink {
         let Some(setup) = Setup::read(request) else {
             return None;
         };
-        if setup.pipeline_size != 1 || setup.chunk_size > 0xffff_ffff {
+        if setup.pipeline_size == 0
+            || setup.pipeline_size > self.most
+            || setup.chunk_size > 0xffff_ffff
+        {
             return None;
         }
         if least > self.kept as u64 || answer.len() < 2 {
             return None;
         }
-        self.rebuild(least as usize, setup.chunk_size as u32);
+        self.rebuild(least as usize, setup.pipeline_size, setup.chunk_size as u32);
         respond(answer)
     }
 
@@ -77,7 +91,7 @@ pub impl Link for Spool as SpoolLink {
         if self.held.len() == 0 {
             return Next::Nothing;
         }
-        match write_ack(answer, self.held[0].seqno, &[0]) {
+        match write_good(answer, self.held[0].seqno, self.nodes as usize) {
             Some(n) => {
                 self.confirm();
                 Next::Answer(n)

@@ -1,6 +1,7 @@
 //! A spool made over a buffer of the caller's, and what can be seen of it.
 ghost use mathlib.Core.Path.{_≡_};
 ghost use mathlib.Core.List.{[]};
+ghost use Prim.Native.Nat.{_≤_};
 ghost use lib.ListN.{length, take};
 ghost use Rattle.std.specs.Of.Vec.{vec-items, vec-cap};
 ghost use Rattle.std.specs.Vec.{made};
@@ -15,7 +16,21 @@ impl Spool {
     /// A spool that keeps the bytes of `buffer`, and never more than the buffer has room for. What it holds besides, a number of bytes for each
     /// packet that waits, is taken here, so that no call allocates later.
     pub fn over(heap: Global, buffer: Vec<u8>) -> Result<Spool, AllocError>
-        ensures { λ r. ⌜ made r (λ s. viewOf s ≡ fresh (vec-items buffer) (vec-cap buffer)) ⌝ }
+        ensures { λ r. ⌜ made r (λ s. viewOf s ≡ fresh (vec-items buffer) (vec-cap buffer) 1) ⌝ }
+    {
+        Spool::of(heap, buffer, 1)
+    }
+
+    /// The same as the first of eight nodes at the most.
+    pub fn first_of_eight(heap: Global, buffer: Vec<u8>) -> Result<Spool, AllocError>
+        ensures { λ r. ⌜ made r (λ s. viewOf s ≡ fresh (vec-items buffer) (vec-cap buffer) 8) ⌝ }
+    {
+        Spool::of(heap, buffer, 8)
+    }
+
+    fn of(heap: Global, buffer: Vec<u8>, most: u64) -> Result<Spool, AllocError>
+        requires { ⌜ most ≤ 8 ⌝ }
+        ensures { λ r. ⌜ made r (λ s. viewOf s ≡ fresh (vec-items buffer) (vec-cap buffer) most) ⌝ }
     {
         let held: Vec<Pending> = Vec::with_capacity(heap, PENDING)?;
         let kept = buffer.len();
@@ -25,6 +40,7 @@ impl Spool {
             held,
             kept,
             limit,
+            most,
             nodes: 0,
             chunk: 0,
         })

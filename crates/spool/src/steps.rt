@@ -13,14 +13,14 @@ use packet::sums::sums_match;
 
 impl Spool {
     // Keeps the first bytes, and forgets what is pending.
-    pub(crate) fn rebuild(&mut self, least: usize, chunk: u32)
-        requires { ⌜ least ≤ now self .kept ⌝ }
-        ensures { λ _. ⌜ viewOf (now (self .exit)) ≡ rebuiltTo (viewOf (now (self .entry))) least chunk ⌝ }
+    pub(crate) fn rebuild(&mut self, least: usize, nodes: u64, chunk: u32)
+        requires { ⌜ least ≤ now self .kept ⌝ ∗ ⌜ nodes ≤ 8 ⌝ }
+        ensures { λ _. ⌜ viewOf (now (self .exit)) ≡ rebuiltTo (viewOf (now (self .entry))) least nodes chunk ⌝ }
     {
         self.bytes.truncate(least);
         self.held.clear();
         self.kept = least;
-        self.nodes = 1;
+        self.nodes = nodes;
         self.chunk = chunk;
     }
 

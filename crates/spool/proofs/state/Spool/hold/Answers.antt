@@ -13,7 +13,7 @@ ghost-self c =
     let items = c .push .ensures .items ∙ cond-true _ _ _ pushed in
     let len = c .extend-from-slice .ensures .len ∙ cond-true _ _ _ grown in
     let sum = ap total items ∙ total-push (vec-items (c .args .self .now .held)) _ in
-    (omega (arith, sum, len, c .args .self .now .adds), (omega (arith, c .extend-from-slice .ensures .capacity, c .args .self .now .room), (omega (arith, c .push .ensures .capacity, c .args .self .now .places), (ap numbered items ∙ numbered-push (vec-items (c .args .self .now .held)) _ (c .args .self .now .widths) (omega arith), tt))))
+    (omega (arith, sum, len, c .args .self .now .adds), (omega (arith, c .extend-from-slice .ensures .capacity, c .args .self .now .room), (omega (arith, c .push .ensures .capacity, c .args .self .now .places), (c .args .self .now .few, (c .args .self .now .fewer, (ap numbered items ∙ numbered-push (vec-items (c .args .self .now .held)) _ (c .args .self .now .widths) (omega arith), tt))))))
 
 pub returns : need.returns
 returns c =
@@ -22,4 +22,4 @@ returns c =
     let held = c .push .ensures .items ∙ cond-true _ _ _ pushed in
     let bytes = c .extend-from-slice .ensures .items ∙ cond-true _ _ _ grown in
     let s = c .args .self .now in
-    (λ i. record { bytes = bytes i; held = held i; kept = s .kept; limit = s .limit; nodes = s .nodes; chunk = s .chunk })
+    (λ i. record { bytes = bytes i; held = held i; kept = s .kept; limit = s .limit; most = s .most; nodes = s .nodes; chunk = s .chunk })

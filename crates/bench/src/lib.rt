@@ -1,0 +1,2 @@
+//! A chain of up to eight nodes in memory, each with a replica of its own: what a test runs a writer against.
+pub mod replicas;
