@@ -24,9 +24,10 @@ use Rattle.request.specs.Setups.{setupOf}
 use Rattle.chain.specs.Acts.{Came, nothing, lost, answer}
 use Rattle.chain.specs.Meaning.{Seen, rebuilt, Rebuilds, SetsUp, withPacket, Takes, Confirms, Passes, Puts, Nexts}
 use Rattle.spool.specs.declared.pending.Pending.{Pending}
+use Rattle.spool.specs.declared.state.Spool.{Spool}
 use Rattle.spool.specs.Calls as calls
 use Rattle.spool.specs.Counts.{total, numbered}
-use Rattle.spool.specs.Spools.{View, packetsFrom, seenIn, setsUp, rebuiltTo, takes, withPending, putTaken, putAfter, confirmsFirst}
+use Rattle.spool.specs.Spools.{View, viewOf, packetsFrom, seenIn, setsUp, rebuiltTo, takes, withPending, putTaken, putAfter, confirmsFirst}
 use Rattle.spool.proofs.Packets.{packets-push}
 
 sameBytes-true : (s t : List ℕ) → sameBytes s t ≡ true → s ≡ t
@@ -140,3 +141,6 @@ answering v w (answer message) h e = by-held (v .held) h e
         → Nexts (answer message) (seenIn (record { bytes = v .bytes; held = hs; kept = v .kept; limit = v .limit; most = v .most; nodes = v .nodes; chunk = v .chunk })) (seenIn w)
     by-held [] g f = absurd f
     by-held (p ∷ ps) g f = confirming (v .chunk) (v .kept) (v .limit) (v .most) (v .nodes) (v .bytes) p ps g w message (f .0) (f .1)
+
+pub whole-of : (a : Spool) → Whole (viewOf a)
+whole-of a = record { adds = a .adds ∙ a .bytes .ok .0; widths = a .widths }

@@ -54,6 +54,13 @@ impl Spool {
         &all[0..self.kept]
     }
 
+    /// How many bytes there is room for in all.
+    pub fn limit(&self) -> usize
+        ensures { λ r. ⌜ r ≡ now (self .entry) .limit ⌝ }
+    {
+        self.limit
+    }
+
     /// How many packets wait for their confirmation.
     pub fn pending(&self) -> usize
         ensures { λ r. ⌜ r ≡ length (vec-items (now (self .entry) .held)) ⌝ }
