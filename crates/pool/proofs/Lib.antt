@@ -1,3 +1,2 @@
-pub mod Rooms
-pub mod Spares
 pub mod Rows
+pub mod Spares

@@ -6,12 +6,13 @@ use Prim.Native.Nat.{ℕ, zero, suc, _≤_, _<_}
 use native.Mathlib.Omega.{arith}
 use lib.ListN.{length, getD}
 use Rattle.std.proofs.shelf.Tests.{true≢false, false≢true}
+use Rattle.std.specs.Options.{isSome}
 use Rattle.std.specs.declared.option.Option.{Option}
 use Rattle.std.specs.declared.option.Option.the-variants.{Some, None}
 use Rattle.proto.specs.declared.datanode.Datanode.{Datanode}
 use Rattle.namenode.specs.Entries as entries
 use Rattle.namenode.specs.Entries.{rowAt}
-use Rattle.pool.specs.Pools.{View, rowFor, offerOf, isSome, listed, offering}
+use Rattle.pool.specs.Pools.{View, rowFor, offerOf, listed, offering}
 
 pub row-at : (ds : List Datanode) (i : ℕ) (d : Datanode) → i < length ds → rowAt (map rowFor ds) i ≡ Some (rowFor (getD ds i d))
 row-at [] i d h = absurd (omega arith)

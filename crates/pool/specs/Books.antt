@@ -29,8 +29,11 @@ withToken (Some stamp) token = Some (stamp, token)
 withToken None token = None
 
 -- an update is accepted where it names eight datanodes at most
+abbrev pub roomFor : List (List ℕ) → Bool
+roomFor ids = leb (length ids) 8
+
 abbrev pub accepts : Entry → Bool
-accepts new = leb (length (new .ids)) 8
+accepts new = roomFor (new .ids)
 
 abbrev pub withEntry : View → Entry → View
 withEntry v new = record { entry = new; token = v .token }

@@ -1,6 +1,6 @@
 -- What a namenode with spare datanodes answers, and what it holds after. Assumes nothing.
 use mathlib.Core.Path.{_≡_}
-use mathlib.Core.Bool.{Bool, true, false, cond}
+use mathlib.Core.Bool.{Bool, cond}
 use mathlib.Core.List.{List, [], _∷_, _++_, map}
 use Prim.Native.Nat.{ℕ}
 use lib.Dec.{leb}
@@ -46,10 +46,6 @@ withSpare survivors None = None
 -- the survivors, of which there is room for eight, and then a spare that is new to survivors and failed ones
 abbrev pub listFor : List Datanode → List Datanode → List Datanode → Option (List Datanode)
 listFor spares survivors failed = cond (leb (length survivors) 8) (withSpare survivors (firstSpare spares (survivors ++ failed))) None
-
-abbrev pub isSome : Option (List Datanode) → Bool
-isSome (Some ns) = true
-isSome None = false
 
 -- a list that is offered is kept, and a refusal leaves what there was
 abbrev pub listed : View → Option (List Datanode) → View

@@ -83,3 +83,21 @@ pub impl NamenodeProtocol for House as HouseProtocol {
 pub impl Namenode for House as HouseNamenode {
     ghost entry = { λ h. houseOf h .entry };
 }
+
+#[cfg(test)]
+mod tests {
+    use super::*;
+    use std::test::*;
+
+    #[test]
+    fn no_datanode_is_offered(rt: LibcRuntime) -> Result<(), Fail> {
+        let message = [0x0a, 0, 0x12, 0, 0x1a, 0, 0x22, 0];
+        let Some(token) = Token::new(&message) else {
+            return Err(Fail::new("not in form"));
+        };
+        let mut house = House::new(rt.alloc(), 7, 0, &[], token)?;
+        check(!house.get_additional_datanode(0, &[], &[]))?;
+        check(house.update_block_for_pipeline(0) == Some(8))?;
+        check(house.stamp_token() == &message)
+    }
+}

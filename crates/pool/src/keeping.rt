@@ -1,13 +1,15 @@
 //! How the block's entry is made, read and replaced. Only the making takes memory.
 ghost use mathlib.Core.Path.{_≡_};
 ghost use mathlib.Core.Bool.{cond};
+ghost use mathlib.Core.List.{map};
 ghost use Prim.Native.Nat.{_≤_};
+ghost use lib.Dec.{leb};
 ghost use lib.ListN.{length};
 ghost use Rattle.std.specs.Of.Vec.{vec-items, vec-len, vec-cap};
 ghost use Rattle.std.specs.Results.{Cases};
-ghost use Rattle.proto.specs.Messages.{held};
+ghost use Rattle.proto.specs.Messages.{held, idOf};
 ghost use Rattle.namenode.specs.Entries.{entryFor};
-ghost use Rattle.pool.specs.Books.{bookOf, stampAfter, accepts, withEntry};
+ghost use Rattle.pool.specs.Books.{bookOf, stampAfter, roomFor, accepts, withEntry};
 use crate::book::Book;
 use crate::book::PLACES;
 use proto::datanode::Datanode;
@@ -24,6 +26,14 @@ pub(crate) fn refill(kept: &mut Vec<Datanode>, nodes: &[Datanode])
 {
     kept.clear();
     let _ = kept.extend_from_slice(nodes);
+}
+
+// Whether there is room for so many datanodes.
+fn has_room(nodes: &[Datanode]) -> bool
+    ensures ids { λ r. ⌜ r ≡ roomFor (map idOf (now (nodes .entry))) ⌝ }
+    ensures count { λ r. ⌜ r ≡ leb (length (now (nodes .entry))) 8 ⌝ }
+{
+    nodes.len() <= PLACES
 }
 
 impl Book {
@@ -61,7 +71,7 @@ impl Book {
         ensures answer { λ r. ⌜ r ≡ accepts (entryFor stamp size (now (nodes .entry))) ⌝ }
         ensures after { λ r. ⌜ bookOf (now (self .exit)) ≡ cond r (withEntry (bookOf (now (self .entry))) (entryFor stamp size (now (nodes .entry)))) (bookOf (now (self .entry))) ⌝ }
     {
-        if nodes.len() > PLACES {
+        if !has_room(nodes) {
             return false;
         }
         refill(&mut self.nodes, nodes);

@@ -1,11 +1,12 @@
 //! How a pool is made, and the list that it offers.
 ghost use mathlib.Core.Path.{_≡_};
 ghost use mathlib.Core.List.{[], _++_};
+ghost use Rattle.std.specs.Options.{isSome};
 ghost use Rattle.std.specs.Results.{Cases};
 ghost use Rattle.proto.specs.Messages.{held};
 ghost use Rattle.replace.specs.Choice.{anySame};
 ghost use Rattle.namenode.specs.Entries.{entryFor};
-ghost use Rattle.pool.specs.Pools.{poolOf, firstSpare, listFor, isSome, listed};
+ghost use Rattle.pool.specs.Pools.{poolOf, firstSpare, listFor, listed};
 use crate::book::Book;
 use crate::book::PLACES;
 use crate::keeping::refill;

@@ -11,6 +11,6 @@ returns-then-position-len c = sym (row-past (vec-items (c .args .self .now .offe
 
 pub returns : need.returns
 returns c =
-    (λ i. Some (record { info = c .info .ensures i; storage = c .storage-id .ensures i; kind = c .storage-type .ensures i }))
-    ∙ ap (λ d. Some (rowFor d)) (c .index-node .ensures)
+    c .hand-out .ensures
+    ∙ ap (λ d. Some (rowFor d)) (c .index .ensures)
     ∙ sym (row-at (vec-items (c .args .self .now .offered)) (c .args .position) _ (omega arith))
