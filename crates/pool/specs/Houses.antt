@@ -4,7 +4,7 @@ use mathlib.Core.Bool.{Bool, cond}
 use mathlib.Core.List.{List, []}
 use Prim.Native.Nat.{ℕ}
 use Rattle.std.specs.declared.option.Option.{Option}
-use Rattle.std.specs.declared.option.Option.the-variants.{Some, None}
+use Rattle.std.specs.declared.option.Option.the-variants.{None}
 use Rattle.namenode.specs.Entries.{Entry, Offer}
 use Rattle.pool.specs.declared.house.House.{House}
 use Rattle.pool.specs.Books.{View, bookOf, stampAfter, withToken, accepts, withEntry}

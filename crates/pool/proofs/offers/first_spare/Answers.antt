@@ -1,4 +1,4 @@
-use mathlib.Core.Path.{sym, ap, _∙_}
+use mathlib.Core.Path.{sym, _∙_}
 use mathlib.Core.List.{_++_}
 use Rattle.pool.proofs.Spares.{new, old, all-old}
 use Rattle.pool.proofs.offers.first_spare.Needs as need

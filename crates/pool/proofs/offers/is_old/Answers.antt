@@ -1,4 +1,4 @@
-use mathlib.Core.Path.{sym, ap, _∙_}
+use mathlib.Core.Path.{ap, _∙_}
 use mathlib.Core.Bool.{_||_}
 use Rattle.replace.specs.Choice.{anySame}
 use Rattle.pool.proofs.Spares.{either-same}
