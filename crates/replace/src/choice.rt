@@ -19,7 +19,8 @@ fn same_address(a: &Datanode, b: &Datanode) -> bool
     a.xfer_port() == b.xfer_port() && a.ip_addr() == b.ip_addr()
 }
 
-fn any_same(nodes: &[Datanode], node: &Datanode) -> bool
+/// Whether one of `nodes` has the ip and port of `node`.
+pub fn any_same(nodes: &[Datanode], node: &Datanode) -> bool
     ensures { λ r. ⌜ r ≡ anySame (now (nodes .entry)) (now (node .entry)) ⌝ }
 {
     for old in nodes {
