@@ -2,12 +2,13 @@
 use mathlib.Core.Path.{_≡_, refl, sym, ap, _∙_}
 use mathlib.Core.Bool.{Bool, true, false, cond}
 use mathlib.Core.List.{List, [], _∷_, _++_, map}
-use Prim.Native.Nat.{ℕ, zero, suc, _-_, _^_, _≤_}
+use Prim.Native.Nat.{ℕ, zero, suc, _-_, _^_, _<_}
 use native.Mathlib.Omega.{arith}
 use lib.Dec.{eqb}
-use lib.ListN.{take, replicate}
+use lib.ListN.{length, getD, take, replicate}
+use Rattle.std.specs.Of.Vec.{vec-items}
 use Rattle.std.proofs.shelf.Equals.{sameBytes-decides}
-use Rattle.std.proofs.shelf.Tests.{and-from, and-parts, eq-eqb, ne-eqb, leb-true, false≢true}
+use Rattle.std.proofs.shelf.Tests.{and-from, and-parts, false≢true}
 use Rattle.std.specs.shelf.Text.{sameBytes}
 use Rattle.std.specs.declared.option.Option.{Option}
 use Rattle.std.specs.declared.option.Option.the-variants.{Some, None}
@@ -18,7 +19,7 @@ use Rattle.request.specs.declared.setup.Setup.{Setup}
 use Rattle.chain.specs.Meaning as meaning
 use Rattle.spool.specs.Calls.{SetsFor, Puts}
 use Rattle.spool.specs.Spools.{View, seenIn, takes, withPending, putTaken, putAfter}
-use Rattle.bench.specs.Replicas.{mirrored}
+use Rattle.bench.specs.Replicas.{Bytes, copies, mirrored}
 
 same-refl : (bs : List ℕ) → sameBytes bs bs ≡ true
 same-refl bs = sameBytes-decides bs bs .1 refl
@@ -55,3 +56,8 @@ put-bytes v w frame p r (Some p′, (r′, t, e)) =
 pub lost-put : (v w : View) (frame : List ℕ) (taken : Bool) → taken ≡ false → w ≡ v → meaning.Puts frame taken (seenIn v) (seenIn w)
 lost-put v w frame true t e = absurd (false≢true (sym t))
 lost-put v w frame false t e = ap seenIn e
+
+pub mirrored-at : (bs : List ℕ) (vs : List Bytes) (i : ℕ) (x : Bytes) → mirrored bs (copies vs) ≡ true → i < length vs → x ≡ getD vs i x → vec-items x ≡ bs
+mirrored-at bs [] i x m h e = absurd (omega arith)
+mirrored-at bs (v ∷ vs) zero x m h e = ap vec-items e ∙ sameBytes-decides (vec-items v) bs .0 (and-parts (sameBytes (vec-items v) bs) (mirrored bs (copies vs)) m .0)
+mirrored-at bs (v ∷ vs) (suc i) x m h e = mirrored-at bs vs i x (and-parts (sameBytes (vec-items v) bs) (mirrored bs (copies vs)) m .1) (omega arith) e
