@@ -1,9 +1,13 @@
 //! The furnace recorder's dry run: readings from standard input become a block, packets and frames, and each frame
-//! is read back and compared.
+//! is read back and compared; then the block goes through a chain of one node, which keeps it.
+mod keep;
 mod options;
+mod sample;
 mod send;
+mod store;
 mod take;
 
+use keep::keep_block;
 use options::Options;
 use packet::size::PacketSize;
 use send::send_block;
@@ -20,7 +24,8 @@ fn run(rt: &LibcRuntime) -> Result<(), AnyError> {
     rt.stdin().read_to_end(&mut text)?;
     let mut block = Vec::new(rt.alloc());
     take_lines(rt, text.as_slice(), options.block, &mut block)?;
-    send_block(rt, size, block.as_slice())
+    send_block(rt, size, block.as_slice())?;
+    keep_block(rt, size, block.as_slice(), options.spool.as_str())
 }
 
 fn main(rt: LibcRuntime) -> Result<(), AnyError> {
