@@ -1,6 +1,6 @@
 //! What can be seen of a bench's nodes.
 ghost use mathlib.Core.Path.{_≡_};
-ghost use Prim.Native.Nat.{_≤_};
+ghost use Prim.Native.Nat.{_<_, _≤_};
 ghost use Rattle.std.specs.declared.option.Option.the-variants.{Some, None};
 ghost use lib.ListN.{length, take};
 ghost use Rattle.std.specs.Of.Vec.{vec-items};
@@ -31,7 +31,7 @@ impl Bench {
 
     /// What a node behind the first holds, pending packets with it: the same as the first one.
     pub fn replica(&self, i: usize) -> Option<&[u8]>
-        ensures { λ r. ⌜ elim r [ Some x ↦ x .now ≡ viewOf (now (self .entry) .lead) .bytes | None ↦ length (vec-items (now (self .entry) .mirrors)) ≤ i ] ⌝ }
+        ensures { λ r. ⌜ elim r [ Some x ↦ (i < length (vec-items (now (self .entry) .mirrors))) × (x .now ≡ viewOf (now (self .entry) .lead) .bytes) | None ↦ length (vec-items (now (self .entry) .mirrors)) ≤ i ] ⌝ }
     {
         if i >= self.mirrors.len() {
             return None;

@@ -7,6 +7,8 @@ use Rattle.bench.proofs.state.Bench.replica.Needs as need
 
 pub returns : need.returns
 returns c =
-    let s = c .args .self .now in
-    c .as-slice .ensures .value
-    ∙ mirrored-at (viewOf (s .lead) .bytes) (vec-items (s .mirrors)) (c .args .i) _ (s .same) (omega (arith, c .if-i-len .left, c .len .ensures, s .mirrors .ok .0)) (c .index .ensures)
+    let s = c .args .self .now in (
+      omega (arith, c .if-i-len .left, c .len .ensures, s .mirrors .ok .0),
+      c .as-slice .ensures .value
+          ∙ mirrored-at (viewOf (s .lead) .bytes) (vec-items (s .mirrors)) (c .args .i) _ (s .same) (omega (arith, c .if-i-len .left, c .len .ensures, s .mirrors .ok .0)) (c .index .ensures),
+    )
