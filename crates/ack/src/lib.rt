@@ -1,4 +1,6 @@
 //! What a datanode answers: the acknowledgement of a packet by a whole pipeline, and the response to a request.
+#![tactic(auto)]
+
 pub mod ack;
 pub mod laws;
 pub mod packed;

@@ -1,4 +1,6 @@
 //! A reflected cyclic redundancy check of 32 bits, sixteen bytes at a time, over a table that its polynomial gives.
+#![tactic(auto)]
+
 ghost use Rattle.std.specs.Prelude.{◌≡◌, ℕ, ◌+◌, ◌*◌, ◌≤◌, List, ◌++◌, length, take, drop};
 ghost use Rattle.crc.specs.Crc.{steps, after_byte, after, sum_of, table_of};
 ghost use Rattle.crc.specs.Laws.{packed, Linear, Joined};

@@ -1,4 +1,6 @@
 //! CRC-32C, the sum of RFC 3720: the reflected check over the polynomial of Castagnoli, 0x82F63B78.
+#![tactic(auto)]
+
 ghost use Rattle.std.specs.Prelude.{◌≡◌, ℕ, List, ◌++◌};
 ghost use Rattle.crc32c.specs.Vectors.{Vectors};
 ghost use Rattle.crc.specs.Crc.{after, sum_of};

@@ -1,4 +1,6 @@
 //! What a packet of a block is: how many bytes it takes, the sums of its chunks, its header, and the frame that carries it.
+#![tactic(auto)]
+
 pub mod frame;
 pub mod header;
 pub mod read;

@@ -1,5 +1,7 @@
 //! A pipeline's datanodes: the table of them, the survivors of a failure, the two requests sent and their responses judged, a namenode's
 //! list read, and a datanode added.
+#![tactic(auto)]
+
 pub mod add_datanode;
 pub mod nodes;
 pub mod offer;

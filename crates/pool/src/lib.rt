@@ -1,4 +1,6 @@
 //! Two namenodes in memory: one that has spare datanodes to offer, and one that has none.
+#![tactic(auto)]
+
 pub mod book;
 pub mod house;
 pub mod keeping;

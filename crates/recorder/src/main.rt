@@ -1,5 +1,7 @@
 //! The furnace recorder's dry run: readings from standard input become a block, packets and frames, and each frame
 //! is read back and compared; then the block goes through a spool, a chain of one node, and through a bench of several.
+#![tactic(auto)]
+
 mod keep;
 mod mirror;
 mod options;

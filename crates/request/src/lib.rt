@@ -1,4 +1,6 @@
 //! The two requests that the writer sends to a datanode, and what the far end reads of the first.
+#![tactic(auto)]
+
 ghost use Rattle.request.specs.SetupLaw.{RequestsReadBack};
 
 pub mod parts;

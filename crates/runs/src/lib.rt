@@ -1,1 +1,2 @@
 //! Every run of calls on a writer, and the law that holds of it.
+#![tactic(auto)]

@@ -1,5 +1,7 @@
 //! The sums and the frames of packets, for Rust and C to call: a slice passes as a pointer and a length.
 //! The benchmark measures the code below through these functions.
+#![tactic(auto)]
+
 ghost use Rattle.std.specs.Prelude.{◌≡◌};
 ghost use Rattle.std.specs.Option.{unwrap_or};
 ghost use Rattle.std.specs.Str.{bytes_eq};

@@ -1,4 +1,6 @@
 //! Runs a table of wire vectors, a line each, from standard input: builds each message by the functions of this repository and compares it octet by octet.
+#![tactic(auto)]
+
 mod answers;
 mod error;
 mod frames;

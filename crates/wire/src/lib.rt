@@ -1,4 +1,6 @@
 //! Protocol buffers on the wire: varints, fields that borrow from the message, and messages field by field.
+#![tactic(auto)]
+
 ghost use Rattle.wire.specs.Laws.{ReadBack, DecodeBack};
 
 use decode::Merge;

@@ -1,4 +1,6 @@
 //! The writer of one replicated block: open, write, heed, beat, recover, finish, close.
+#![tactic(auto)]
+
 pub mod admit;
 pub mod beat;
 pub mod cause;
