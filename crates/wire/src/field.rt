@@ -104,6 +104,7 @@ fn tag_of(key: u64) -> Result<u32, Fault>
 }
 
 /// The field whose key stands at `at`, and the place past it. First the value is read, then the tag is looked at, then the wire type.
+#[tactic(auto, unfolding(crate::specs::Read::read_field))]
 pub fn read_field(input: &[u8], at: usize) -> Result<(Field<'_>, usize), Fault>
     ensures value { seen result ≡ read_field at input.now }
     ensures within { IfOk result (λ x. (place_of x.0 ≡ at) × (at < x.1) × (at + weight (wire x.0) ≤ x.1) × (x.1 ≤ length input.now)) }

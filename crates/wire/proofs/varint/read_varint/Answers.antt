@@ -25,7 +25,7 @@ turn c = record {
   under = omega arith;
   low = c.loop-turn.invariant.1;
   fit = c.else-turn-eq9.either;
-  byte = omega (arith, c.type-inv.input c.loop-turn.i);
+  byte = omega (arith, c.type_inv.input c.loop-turn.i);
   digit = c.from.ensures;
 }
 

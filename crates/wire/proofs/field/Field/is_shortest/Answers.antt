@@ -14,18 +14,18 @@ short a n m h k = grind (arith, nat_tests)
 pub returns-in-Varint : goal.returns-in-Varint
 returns-in-Varint c =
     let e = ap (λ z. length (encode (wire z))) c.in-Varint.is in
-    ap (eqb c.args.octets) (omega (arith, varint_octets c.in-Varint.tag c.in-Varint.value, c.key-len.ensures.value, c.len.ensures, c.of.ensures.size))
+    ap (eqb c.args.octets) (omega (arith, varint_octets c.in-Varint.tag c.in-Varint.value, c.key_len.ensures.value, c.len.ensures, c.of.ensures.size))
 
 pub returns-in-Fixed64 : goal.returns-in-Fixed64
 returns-in-Fixed64 c =
     let e = ap (λ z. length (encode (wire z))) c.in-Fixed64.is in
-    ap (eqb c.args.octets) (omega (arith, fixed64_octets c.in-Fixed64.tag c.in-Fixed64.value, c.key-len-in-Fixed64.ensures.value))
+    ap (eqb c.args.octets) (omega (arith, fixed64_octets c.in-Fixed64.tag c.in-Fixed64.value, c.key_len-in-Fixed64.ensures.value))
 
 pub returns-then-octets-bytes : goal.returns-then-octets-bytes
 returns-then-octets-bytes c =
     let e = ap (λ z. length (encode (wire z))) c.in-Part.is in
-    shifted c.args.octets c.prefix-len.result (length c.in-Part.bytes.now) c.if-octets-bytes.true
-    ∙ ap (eqb c.args.octets) (omega (arith, part_octets c.in-Part.tag c.in-Part.bytes.now, c.prefix-len.ensures.value))
+    shifted c.args.octets c.prefix_len.result (length c.in-Part.bytes.now) c.if-octets-bytes.true
+    ∙ ap (eqb c.args.octets) (omega (arith, part_octets c.in-Part.tag c.in-Part.bytes.now, c.prefix_len.ensures.value))
 
 pub returns-else-octets-bytes : goal.returns-else-octets-bytes
 returns-else-octets-bytes c =
@@ -35,4 +35,4 @@ returns-else-octets-bytes c =
 pub returns-in-Fixed32 : goal.returns-in-Fixed32
 returns-in-Fixed32 c =
     let e = ap (λ z. length (encode (wire z))) c.in-Fixed32.is in
-    ap (eqb c.args.octets) (omega (arith, fixed32_octets c.in-Fixed32.tag c.in-Fixed32.value, c.key-len-in-Fixed32.ensures.value))
+    ap (eqb c.args.octets) (omega (arith, fixed32_octets c.in-Fixed32.tag c.in-Fixed32.value, c.key_len-in-Fixed32.ensures.value))
