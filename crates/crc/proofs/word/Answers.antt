@@ -4,5 +4,5 @@ use Rattle.crc.proofs.word.Goals as goal
 
 pub returns : goal.returns
 returns c =
-    c.from-le-bytes.ensures
+    c.from_le_bytes.ensures
     ∙ sym (packed_four c.args.d.now c.args.i c.requires (search rules) (search rules) (search rules) (search rules))

@@ -9,6 +9,6 @@ use Rattle.ack.proofs.ack.judge.Goals as goal
 pub returns : goal.returns
 unfolding ack_read verdict_on
 returns c =
-    c.verdict-on.ensures
+    c.verdict_on.ensures
     ∙ ap (λ r. and_then r (λ p. Ok (verdict_of p.seqno p.replies.failed))) c.read.ensures
     ∙ verdict_held (ack_of c.args.input.now)

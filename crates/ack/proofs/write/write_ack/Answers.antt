@@ -6,8 +6,8 @@ use Rattle.ack.specs.Written.{answer_fields, answer_octets}
 use Rattle.ack.proofs.Written.{answer_bound}
 use Rattle.ack.proofs.write.write_ack.Goals as goal
 
-pub encoded-len-end-requires : goal.encoded-len-end-requires
-encoded-len-end-requires c =
+pub encoded_len-end-requires : goal.encoded_len-end-requires
+encoded_len-end-requires c =
     let e = ap (λ z. length (encode_all (varint 1 z ∷ map (λ status. varint 2 status) c.args.replies.now))) c.zigzagged.ensures in
     omega (arith, answer_bound c.args.seqno c.args.replies.now c.if-replies-gt8.false)
 
@@ -15,7 +15,7 @@ pub returns-then-out-end : goal.returns-then-out-end
 unfolding answer_octets
 returns-then-out-end c =
     let e = ap (λ z. length (encode_all (varint 1 z ∷ map (λ status. varint 2 status) c.args.replies.now))) c.zigzagged.ensures in
-    let short : length c.args.out.now < length (encode_all (answer_fields c.args.seqno c.args.replies.now)) = omega (arith, c.if-out-end.true, c.encoded-len-end.ensures) in
+    let short : length c.args.out.now < length (encode_all (answer_fields c.args.seqno c.args.replies.now)) = omega (arith, c.if-out-end.true, c.encoded_len-end.ensures) in
     (refl, and_right _ _ (lt-leb _ _ short))
 
 pub returns : goal.returns
@@ -23,6 +23,6 @@ unfolding answer_octets
 returns c =
     let m = ap (λ z. encode_all (varint 1 z ∷ map (λ status. varint 2 status) c.args.replies.now)) c.zigzagged.ensures in
     let b = c.encode.ensures ∙ m in
-    let n = c.encoded-len-end.ensures ∙ ap length m in
-    let f = put (start c.args.out.now) (c.encoded-len-end.result - 0) c.encoded-len-end.result c.encode.new.out (ap length b ∙ sym n ∙ omega arith) (omega arith) c.if-out-end.false in
-    (n, c.if-replies-gt8.false, c.if-out-end.false, f.is ∙ (λ i. b i ++ drop c.encoded-len-end.result c.args.out.now))
+    let n = c.encoded_len-end.ensures ∙ ap length m in
+    let f = put (start c.args.out.now) (c.encoded_len-end.result - 0) c.encoded_len-end.result c.encode.new.out (ap length b ∙ sym n ∙ omega arith) (omega arith) c.if-out-end.false in
+    (n, c.if-replies-gt8.false, c.if-out-end.false, f.is ∙ (λ i. b i ++ drop c.encoded_len-end.result c.args.out.now))

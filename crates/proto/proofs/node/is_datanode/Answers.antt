@@ -19,5 +19,5 @@ returns c =
     let bs = c.args.info.now in
     let a = le-leb _ _ c.if-info-gt256.false in
     let b = sym c.conforms.ensures ∙ c.if-not-conforms.false in
-    let d = c.conforms-2.ensures ∙ ap (form_of datanode_id) c.find-part.ensures in
+    let d = c.conforms-2.ensures ∙ ap (form_of datanode_id) c.find_part.ensures in
     d ∙ sym (λ i. a i && (b i && form_of datanode_id (part_of 1 bs)))

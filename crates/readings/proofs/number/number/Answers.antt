@@ -13,19 +13,19 @@ returns-then-value-limit c =
       | then-value-limit-via-else-value-limit+then-digit-limit w ↦ omega (arith, w.if-value-limit.false, w.if-digit-limit.true)
     ] in
     record {
-      value = above c.loop-next.invariant c.loop-next-test.true (sym c.if-is-ascii-digit.ensures.value) c.from-digit.result c.from-digit.ensures over;
+      value = above c.loop-next.invariant c.loop-next-test.true (sym c.if-is_ascii_digit.ensures.value) c.from-digit.result c.from-digit.ensures over;
       within = tt;
     }
 
 pub loop-next-preserved : goal.loop-next-preserved
-loop-next-preserved c = goes c.loop-next.invariant c.loop-next-test.true (sym c.if-is-ascii-digit.ensures.value) c.from-digit.result c.from-digit.ensures (omega arith)
+loop-next-preserved c = goes c.loop-next.invariant c.loop-next-test.true (sym c.if-is_ascii_digit.ensures.value) c.from-digit.result c.from-digit.ensures (omega arith)
 
 pub returns-then-next-at : goal.returns-then-next-at
 unfolding number_at
 returns-then-next-at c =
     let e : digits (drop c.loop-next.next c.args.line.now) ≡ [] =
     elim c.loop-next-test.branch [
-      | then-loop-next-test+else-is-ascii-digit w ↦ digits_none _ _ w.loop-next-test.true (sym w.if-is-ascii-digit.ensures.value)
+      | then-loop-next-test+else-is-ascii-digit w ↦ digits_none _ _ w.loop-next-test.true (sym w.if-is_ascii_digit.ensures.value)
       | else-loop-next-test w ↦ digits_end _ _ w.loop-next-test.false
     ] in
     record { value = none c.loop-next.invariant e c.if-next-at.true; within = tt }
@@ -35,7 +35,7 @@ unfolding number_at
 returns c =
     let e : digits (drop c.loop-next.next c.args.line.now) ≡ [] =
     elim c.loop-next-test.branch [
-      | then-loop-next-test+else-is-ascii-digit w ↦ digits_none _ _ w.loop-next-test.true (sym w.if-is-ascii-digit.ensures.value)
+      | then-loop-next-test+else-is-ascii-digit w ↦ digits_none _ _ w.loop-next-test.true (sym w.if-is_ascii_digit.ensures.value)
       | else-loop-next-test w ↦ digits_end _ _ w.loop-next-test.false
     ] in
     record { value = ends c.loop-next.invariant e c.if-next-at.false; within = c.loop-next.invariant.within }

@@ -7,11 +7,11 @@ use Rattle.readings.proofs.octets.put_u16s.Goals as goal
 
 pub loop-i-preserved : goal.loop-i-preserved
 loop-i-preserved c =
-    put_more 2 c.args.values.now c.loop-i.i _ _ c.copy-from-slice.new.self c.loop-i.invariant c.loop-i-test.true
-    (omega arith) (omega arith) (omega arith) (c.copy-from-slice.ensures.after ∙ c.to-be-bytes.ensures ∙ big_2 _)
+    put_more 2 c.args.values.now c.loop-i.i _ _ c.copy_from_slice.new.self c.loop-i.invariant c.loop-i-test.true
+    (omega arith) (omega arith) (omega arith) (c.copy_from_slice.ensures.after ∙ c.to_be_bytes.ensures ∙ big_2 _)
 
 pub returns : goal.returns
 returns c = record {
   written = done c.loop-i.invariant (omega arith) ∙ ap (bigs 2) (take_all c.loop-i.i c.args.values.now c.loop-i-test.false);
-  fits = λ k. omega (arith, c.type-inv.values k);
+  fits = λ k. omega (arith, c.type_inv.values k);
 }

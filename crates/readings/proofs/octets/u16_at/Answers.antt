@@ -8,6 +8,6 @@ pub returns : goal.returns
 unfolding big_at
 returns c =
     let n : (c.args.at + 2) - c.args.at ≡ 2 = omega arith in
-    c.from-be-bytes.ensures
-    ∙ number_2 c.copy-from-slice.new.self c.copy-from-slice.ensures.len
-    ∙ ap (number_from_digits 256) (c.copy-from-slice.ensures.after ∙ ap (λ z. take z (drop c.args.at c.args.bytes.now)) n)
+    c.from_be_bytes.ensures
+    ∙ number_2 c.copy_from_slice.new.self c.copy_from_slice.ensures.len
+    ∙ ap (number_from_digits 256) (c.copy_from_slice.ensures.after ∙ ap (λ z. take z (drop c.args.at c.args.bytes.now)) n)

@@ -5,17 +5,17 @@ use Rattle.recording.proofs.cut.packet_data.Goals as goal
 pub returns-then-capacity-eq0 : goal.returns-then-capacity-eq0
 returns-then-capacity-eq0 c = sym (ap (λ z. take z (drop (c.args.k * c.args.capacity) c.args.block.now)) c.if-capacity-eq0.true)
 
-pub overflow-mul-start : goal.overflow-mul-start
-overflow-mul-start c = omega (arith, starts c.args.capacity (length c.args.block.now) c.args.k (omega arith))
+pub overflow_mul-start : goal.overflow_mul-start
+overflow_mul-start c = omega (arith, starts c.args.capacity (length c.args.block.now) c.args.k (omega arith))
 
-pub overflow-sub-left : goal.overflow-sub-left
-overflow-sub-left c = omega (arith, starts c.args.capacity (length c.args.block.now) c.args.k (omega arith))
+pub overflow_sub-left : goal.overflow_sub-left
+overflow_sub-left c = omega (arith, starts c.args.capacity (length c.args.block.now) c.args.k (omega arith))
 
-pub slice-bounds-result-count-then-left-capacity : goal.slice-bounds-result-count-then-left-capacity
-slice-bounds-result-count-then-left-capacity c = omega (arith, starts c.args.capacity (length c.args.block.now) c.args.k (omega arith))
+pub slice_bounds-result-count-then-left-capacity : goal.slice_bounds-result-count-then-left-capacity
+slice_bounds-result-count-then-left-capacity c = omega (arith, starts c.args.capacity (length c.args.block.now) c.args.k (omega arith))
 
-pub slice-bounds-result-start-then-left-capacity : goal.slice-bounds-result-start-then-left-capacity
-slice-bounds-result-start-then-left-capacity c = omega (arith, starts c.args.capacity (length c.args.block.now) c.args.k (omega arith))
+pub slice_bounds-result-start-then-left-capacity : goal.slice_bounds-result-start-then-left-capacity
+slice_bounds-result-start-then-left-capacity c = omega (arith, starts c.args.capacity (length c.args.block.now) c.args.k (omega arith))
 
 pub returns-then-left-capacity : goal.returns-then-left-capacity
 returns-then-left-capacity c = short c.args.capacity (c.args.k * c.args.capacity) (length c.args.block.now) c.args.block.now refl c.if-left-capacity.true
