@@ -61,7 +61,9 @@ def turn(crate):
             t = open(p, encoding="utf-8").read()
 
             def one(w):
-                name = w[0]
+                return "+".join(part(it) for it in w[0].split("+"))
+
+            def part(name):
                 if "-" not in name and "_" not in name:
                     return name
                 to = made.get(canonical(name), set())

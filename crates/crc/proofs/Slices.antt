@@ -1,6 +1,6 @@
 -- The register after a block, as entries of the table.
 -- Assumes nothing.
-use Rattle.std.proofs.Common.{◌≡◌, ℕ, zero, suc, ◌+◌, ◌-◌, ◌*◌, ◌/◌, ◌%◌, ◌^◌, ◌<◌, ◌≤◌, List, [], ◌∷◌, ◌++◌, length, get_or, take, drop, sym, refl, ap, ◌∙◌, ap₂, le_of_suc-le-suc, not-suc-le-zero, add-zero, add-suc, suc-add, zero-add, arith, take_add}
+use Rattle.std.proofs.Common.{◌≡◌, ℕ, zero, suc, ◌+◌, ◌-◌, ◌*◌, ◌/◌, ◌%◌, ◌^◌, ◌<◌, ◌≤◌, List, [], ◌∷◌, ◌++◌, length, get_or, take, drop, sym, refl, ap, ◌∙◌, ap₂, le_of_suc-le-suc, not-suc-le-zero, add-zero, add-suc, suc-add, zero-add, arith, take-add}
 use lib.Bits.{bit_xor, bit_and, xor_assoc, xor_comm, xor_self, xor_zero_r, xor_shifted, and_mask}
 use Rattle.std.proofs.lemmas.Nat.{mod_below, shr_split, shr-shr, div-mul-add, mod-mul-add}
 use Rattle.std.proofs.lemmas.List.{take-append-drop, length-take, length-drop, length-append, drop-drop, drop_more, drop_all}
@@ -57,7 +57,7 @@ block_in p v a b c d ea eb ec ed =
 
 -- a front of n + 4, from i on
 front : (xs : List ℕ) (i n : ℕ) → take (4 + n) (drop i xs) ≡ take 4 (drop i xs) ++ take n (drop (i + 4) xs)
-front xs i n = take_add 4 n (drop i xs) ∙ ap (λ (r : List ℕ). take 4 (drop i xs) ++ take n r) (drop-drop 4 i xs)
+front xs i n = take-add 4 n (drop i xs) ∙ ap (λ (r : List ℕ). take 4 (drop i xs) ++ take n r) (drop-drop 4 i xs)
 
 pub quarters : (xs : List ℕ) (i : ℕ) → take 16 (drop i xs) ≡ take 4 (drop i xs) ++ (take 4 (drop (i + 4) xs) ++ (take 4 (drop (i + 8) xs) ++ take 4 (drop (i + 12) xs)))
 quarters xs i =

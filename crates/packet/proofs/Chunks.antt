@@ -1,5 +1,5 @@
 -- The chunks of some data, and their sums one after another. Assumes nothing.
-use Rattle.std.proofs.Common.{◌≡◌, ℕ, zero, suc, ◌+◌, ◌-◌, ◌*◌, ◌/◌, ◌%◌, ◌<◌, ◌≤◌, Bool, true, cond, eqb, ◌⊎◌, List, [], ◌∷◌, ◌++◌, map, length, get_or, take, drop, sym, refl, ap, ◌∙◌, subst, ⊎_elim, add-zero, arith, take_add}
+use Rattle.std.proofs.Common.{◌≡◌, ℕ, zero, suc, ◌+◌, ◌-◌, ◌*◌, ◌/◌, ◌%◌, ◌<◌, ◌≤◌, Bool, true, cond, eqb, ◌⊎◌, List, [], ◌∷◌, ◌++◌, map, length, get_or, take, drop, sym, refl, ap, ◌∙◌, subst, ⊎_elim, add-zero, arith, take-add}
 use borrow.Rule.Slice.PartMut.{put_mid}
 use Rattle.std.specs.List.{range_with_len, flat_map}
 use Rattle.std.proofs.lemmas.Nat.{div-add-mod', mul-le, mul-add-lt}
@@ -95,7 +95,7 @@ put_sum {xs} {zs} c n k bytes ys f e j h =
 pub right_more : (c n : ℕ) (bytes s : List ℕ) → take (4 * n) s ≡ first_sums c bytes n → take 4 (drop (4 * n) s) ≡ sum_octets (chunk_at c bytes n) → take (4 * (n + 1)) s ≡ first_sums c bytes (n + 1)
 right_more c n bytes s f e =
     let m : 4 * (n + 1) ≡ 4 * n + 4 = omega arith in
-    ap (λ i. take i s) m ∙ take_add (4 * n) 4 s ∙ (λ i. f i ++ e i) ∙ sym (sums_more c n bytes)
+    ap (λ i. take i s) m ∙ take-add (4 * n) 4 s ∙ (λ i. f i ++ e i) ∙ sym (sums_more c n bytes)
 
 -- ---- one sum of many
 

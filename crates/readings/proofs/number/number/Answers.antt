@@ -2,7 +2,7 @@ use Rattle.std.proofs.Common.{◌≡◌, ◌+◌, ◌*◌, ◌<◌, [], drop, sy
 use Rattle.readings.specs.Line.{digits, number_at}
 use Rattle.readings.proofs.Scan.{digits_none, digits_end, goes, above, none, ends}
 use Rattle.readings.proofs.number.number.Goals as goal
-use Rattle.readings.proofs.number.number.Goals.{then-value-limit-via-then-value-limit, then-value-limit-via-else-value-limit+then-digit-limit, then-loop-next-test+else-is-ascii-digit, else-loop-next-test}
+use Rattle.readings.proofs.number.number.Goals.{then-value-limit-via-then-value-limit, then-value-limit-via-else-value-limit+then-digit-limit, then-loop-next-test+else-is_ascii_digit, else-loop-next-test}
 
 pub returns-then-value-limit : goal.returns-then-value-limit
 unfolding number_at
@@ -25,7 +25,7 @@ unfolding number_at
 returns-then-next-at c =
     let e : digits (drop c.loop-next.next c.args.line.now) ≡ [] =
     elim c.loop-next-test.branch [
-      | then-loop-next-test+else-is-ascii-digit w ↦ digits_none _ _ w.loop-next-test.true (sym w.if-is_ascii_digit.ensures.value)
+      | then-loop-next-test+else-is_ascii_digit w ↦ digits_none _ _ w.loop-next-test.true (sym w.if-is_ascii_digit.ensures.value)
       | else-loop-next-test w ↦ digits_end _ _ w.loop-next-test.false
     ] in
     record { value = none c.loop-next.invariant e c.if-next-at.true; within = tt }
@@ -35,7 +35,7 @@ unfolding number_at
 returns c =
     let e : digits (drop c.loop-next.next c.args.line.now) ≡ [] =
     elim c.loop-next-test.branch [
-      | then-loop-next-test+else-is-ascii-digit w ↦ digits_none _ _ w.loop-next-test.true (sym w.if-is_ascii_digit.ensures.value)
+      | then-loop-next-test+else-is_ascii_digit w ↦ digits_none _ _ w.loop-next-test.true (sym w.if-is_ascii_digit.ensures.value)
       | else-loop-next-test w ↦ digits_end _ _ w.loop-next-test.false
     ] in
     record { value = ends c.loop-next.invariant e c.if-next-at.false; within = c.loop-next.invariant.within }
