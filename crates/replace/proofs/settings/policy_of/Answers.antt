@@ -7,6 +7,6 @@ use Rattle.replace.proofs.settings.policy_of.Goals as goal
 pub returns : goal.returns
 returns c =
     let s = c.args.value.now in
-    let a = sym (answers_alike s (codes "NEVER") _ (cases_from_iff c.eq-ignore-ascii-case.ensures.test)) ∙ c.if-eq-ignore-ascii-case.false in
-    let b = sym (answers_alike s (codes "ALWAYS") _ (cases_from_iff c.eq-ignore-ascii-case-2.ensures.test)) ∙ c.if-eq-ignore-ascii-case-2.false in
+    let a = sym (answers_alike s (codes "NEVER") _ (cases_from_iff c.eq_ignore_ascii_case.ensures.test)) ∙ c.if-eq_ignore_ascii_case.false in
+    let b = sym (answers_alike s (codes "ALWAYS") _ (cases_from_iff c.eq_ignore_ascii_case-2.ensures.test)) ∙ c.if-eq_ignore_ascii_case-2.false in
     sym (cond-false _ _ _ a ∙ cond-false _ _ _ b)
