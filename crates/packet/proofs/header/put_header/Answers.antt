@@ -10,7 +10,7 @@ returns-then-not-header c =
     let h = c.args.header in
     let plain = not-true h.last c.if-not-header.true in
     let long : length c.args.out.now ≡ 25 = c.requires ∙ cond-false h.last 27 25 plain in
-    let e = c.put-plain-fields.ensures in
+    let e = c.put_plain_fields.ensures in
     done (put (start c.args.out.now) 25 25 _ (ap length e ∙ plain_long h.offset h.seqno h.last h.data_len) refl (omega arith)) long
     ∙ e
     ∙ header_plain h.offset h.seqno h.last h.data_len plain
@@ -20,7 +20,7 @@ returns c =
     let h = c.args.header in
     let last = not-false h.last c.if-not-header.false in
     let long : length c.args.out.now ≡ 27 = c.requires ∙ cond-true h.last 27 25 last in
-    let e = c.put-plain-fields.ensures in
+    let e = c.put_plain_fields.ensures in
     let f = put (start c.args.out.now) 25 25 _ (ap length e ∙ plain_long h.offset h.seqno h.last h.data_len) refl (omega arith) in
     done (one (one f 40 (omega arith)) 1 (omega arith)) long
     ∙ append_assoc _ (40 ∷ []) (1 ∷ [])

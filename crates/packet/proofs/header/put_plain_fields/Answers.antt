@@ -8,9 +8,9 @@ use Rattle.packet.proofs.header.put_plain_fields.Goals.{then-header, else-header
 pub returns : goal.returns
 returns c =
     let h = c.args.header in
-    let a = c.copy-from-slice.ensures.after ∙ c.to-le-bytes.ensures ∙ little_8 h.offset in
-    let b = c.copy-from-slice-2.ensures.after ∙ c.to-le-bytes-2.ensures ∙ little_8 h.seqno in
-    let d = c.copy-from-slice-3.ensures.after ∙ c.to-le-bytes-3.ensures ∙ little_4 h.data_len in
+    let a = c.copy_from_slice.ensures.after ∙ c.to_le_bytes.ensures ∙ little_8 h.offset in
+    let b = c.copy_from_slice-2.ensures.after ∙ c.to_le_bytes-2.ensures ∙ little_8 h.seqno in
+    let d = c.copy_from_slice-3.ensures.after ∙ c.to_le_bytes-3.ensures ∙ little_4 h.data_len in
     let last : c.if-header.out ≡ cond c.args.header.last 1 0 =
     elim c.if-header.branch [
       | then-header w ↦ w.out-is ∙ sym (cond-true _ _ _ w.if-header.true)

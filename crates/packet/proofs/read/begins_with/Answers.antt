@@ -6,6 +6,6 @@ use Rattle.std.proofs.lemmas.Bool.Decides.{Decides-eqb}
 
 pub returns : goal.returns
 returns c =
-    let e = take_all (length c.put-front.new.out - 0) c.put-front.new.out (omega arith) ∙ c.put-front.ensures in
+    let e = take_all (length c.put_front.new.out - 0) c.put_front.new.out (omega arith) ∙ c.put_front.ensures in
     let d = slice_eq-Decides Decides-eqb _ _ _ c.eq.ensures in
-    record { value = (λ h. d.0 h ∙ e, λ h. d.1 (h ∙ sym e)); after = c.put-front.ensures }
+    record { value = (λ h. d.0 h ∙ e, λ h. d.1 (h ∙ sym e)); after = c.put_front.ensures }

@@ -5,4 +5,4 @@ use Rattle.packet.proofs.sums.put_sums.Given as goal
 
 -- the sums of the first k chunks stand at the front
 abbrev pub invariant-loop-k : goal.invariant-loop-k
-invariant-loop-k l = Front l.initial.out (4 * l.k) (first_sums l.chunk-size l.data l.k) l.out
+invariant-loop-k l = Front l.initial.out (4 * l.k) (first_sums l.chunk_size l.data l.k) l.out

@@ -3,4 +3,4 @@ use Rattle.packet.proofs.Headers.{header_long}
 use Rattle.packet.proofs.header.PacketHeader.encoded_len.Goals as goal
 
 pub returns : goal.returns
-returns c = c.header-len.ensures.value ∙ sym (header_long _ _ _ _)
+returns c = c.header_len.ensures.value ∙ sym (header_long _ _ _ _)
