@@ -73,9 +73,11 @@ def turn(crate):
                     return name
                 return next(iter(to))
 
+            t0 = t
+            t = re.sub(r"(?<=\.args\.)[a-z]\w*(?:-\w+)+", lambda w: w[0].replace("-", "_"), t)
             lines = [l if re.match(r"use |--", l) and "proofs." + m[2] not in l else TOKEN.sub(one, l) for l in t.split("\n")]
             new = "\n".join(lines)
-            if new != t:
+            if new != t0:
                 open(p, "w", encoding="utf-8").write(new)
                 n += 1
     print(crate, n, "files")

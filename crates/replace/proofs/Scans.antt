@@ -1,18 +1,15 @@
 -- One turn of each search. Assumes nothing.
-use Rattle.std.proofs.Common.{◌≡◌, ℕ, ◌+◌, ◌<◌, ◌≤◌, Bool, true, false, cond, ◌&&◌, ◌||◌, List, [], ◌∷◌, length, get_or, drop, Some, None, Decides, sym, refl, ap, ◌∙◌}
-use Rattle.std.specs.Cmp.Lexicographic.{Matches}
+use Rattle.std.proofs.Common.{◌≡◌, ℕ, ◌+◌, ◌<◌, ◌≤◌, Bool, true, false, cond, ◌&&◌, ◌||◌, List, [], ◌∷◌, length, get_or, drop, Some, None, sym, refl, ap, ◌∙◌}
 use Rattle.std.specs.Str.{bytes_eq}
-use Rattle.std.proofs.lemmas.Slice.Eq.{slice_eq-Decides, bytes_eq-Decides}
 use Rattle.std.proofs.lemmas.List.{at_drop_more, at_drop_all}
 use Rattle.std.proofs.lemmas.Bool.{eq-eqb, cond-true, cond-false}
-use Rattle.std.proofs.lemmas.Bool.Decides.{same_from_decides, Decides-eqb}
 use Rattle.proto.specs.declared.datanode.Datanode.{Datanode}
 use Rattle.proto.specs.Messages.{ip_of, port_of}
 use Rattle.replace.specs.Choice.{same_address, any_same, first_new}
 
-pub same_is : (a b : Datanode) (s t : List ℕ) (r : Bool) → port_of a ≡ port_of b → s ≡ ip_of a → t ≡ ip_of b → Matches (λ (x y : ℕ) (z : Bool). Decides z (x ≡ y)) s t r → r ≡ same_address a b
+pub same_is : (a b : Datanode) (s t : List ℕ) (r : Bool) → port_of a ≡ port_of b → s ≡ ip_of a → t ≡ ip_of b → r ≡ bytes_eq s t → r ≡ same_address a b
 same_is a b s t r p es et m =
-    same_from_decides r (bytes_eq s t) (slice_eq-Decides Decides-eqb s t r m) (bytes_eq-Decides s t)
+    m
     ∙ (λ i. bytes_eq (es i) (et i))
     ∙ sym (ap (λ z. z && bytes_eq (ip_of a) (ip_of b)) (eq-eqb (port_of a) (port_of b) p))
 

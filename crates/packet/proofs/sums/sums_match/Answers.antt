@@ -1,6 +1,6 @@
 use Rattle.std.proofs.Common.{◌≡◌, ◌+◌, ◌-◌, ◌*◌, length, take, drop, sym, ap, ◌∙◌, arith}
 use Rattle.std.specs.Str.{bytes_eq}
-use Rattle.std.proofs.lemmas.Slice.Eq.{slice_eq-Decides}
+use Rattle.std.proofs.lemmas.Slice.Eq.{bytes_eq-Decides}
 use Rattle.std.proofs.lemmas.List.{take_all}
 use Rattle.crc.specs.Crc.{sum_of}
 use Rattle.wire.specs.Octets.{big}
@@ -10,7 +10,6 @@ use Rattle.packet.proofs.Chunks.{first_sums, all_sums, sums_of_long, none_to_sum
 use Rattle.packet.proofs.Same.{same, other, same_none, differ, agree}
 use Rattle.packet.proofs.sums.sums_match.Goals as goal
 use Rattle.packet.proofs.sums.sums_match.Goals.{After-ne}
-use Rattle.std.proofs.lemmas.Bool.Decides.{Decides-eqb}
 
 pub returns-then-is_empty : goal.returns-then-is_empty
 returns-then-is_empty c =
@@ -47,17 +46,17 @@ compared c =
 pub loop-k-preserved : goal.loop-k-preserved
 loop-k-preserved c =
     let a = (goal.at.loop-k-preserved c).After-ne in
-    let d = slice_eq-Decides Decides-eqb _ _ _ c.ne.ensures.1 in
+    let d = bytes_eq-Decides (take (4 * c.loop-k.k + 4 - 4 * c.loop-k.k) (drop (4 * c.loop-k.k) c.args.sums.now)) (take 4 c.to_be_bytes-sum.result) in
     right_more c.args.chunk_size c.loop-k.k c.args.data.now c.args.sums.now c.loop-k.invariant
-    (sym (compared a) ∙ agree _ _ c.ne.ensures.0 c.ne.result d c.ne.ensures.2 c.if-ne.false ∙ computed a)
+    (sym (compared a) ∙ agree _ _ _ c.ne.result d c.ne.ensures c.if-ne.false ∙ computed a)
 
 pub returns-then-ne : goal.returns-then-ne
 returns-then-ne c =
     let a = (goal.at.returns-then-ne c).After-ne in
-    let d = slice_eq-Decides Decides-eqb _ _ _ c.ne.ensures.1 in
+    let d = bytes_eq-Decides (take (4 * c.loop-k.k + 4 - 4 * c.loop-k.k) (drop (4 * c.loop-k.k) c.args.sums.now)) (take 4 c.to_be_bytes-sum.result) in
     other c.args.sums.now (sums_of c.args.chunk_size c.args.data.now)
     (λ e.
-    differ _ _ c.ne.ensures.0 c.ne.result d c.ne.ensures.2 c.if-ne.true
+    differ _ _ _ c.ne.result d c.ne.ensures c.if-ne.true
     (compared a
     ∙ ap (λ s. take 4 (drop (4 * c.loop-k.k) s)) e
     ∙ sum_at c.args.chunk_size c.loop-k.k c.args.data.now (omega (arith, c.chunk_count-count.ensures))
