@@ -8,6 +8,6 @@ returns-then-position-len c = sym (row_past (vec_items c.args.self.now.offered) 
 
 pub returns : goal.returns
 returns c =
-    c.hand-out.ensures
+    c.hand_out.ensures
     ∙ ap (λ d. Some (row_for d)) c.index.ensures
     ∙ sym (row_at_lem (vec_items c.args.self.now.offered) c.args.position _ (omega arith))
