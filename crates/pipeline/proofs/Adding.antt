@@ -38,7 +38,7 @@ module _ {L : Type 0} (transfers : L → Datanode → List ℕ → Option (List 
   within_of : (header : ClientOperationHeader) (choice : Result (ℕ × ℕ) NoChoice) → length nodes ≤ 8 → Copies transfers header nodes choice s r t → Within nodes r
   within_of header (Err NewNode) h c = subst (Within nodes) (sym c.0) tt
   within_of header (Err Source) h c = subst (Within nodes) (sym c.0) tt
-  within_of header (Ok places) h c = subst (Within nodes) (sym c.is) (granted nodes places c.reply (h, c.new-within, c.source-within))
+  within_of header (Ok places) h c = subst (Within nodes) (sym c.is) (granted nodes places c.reply (h, c.new_within, c.source_within))
 
   -- the list that was read is lent, and a datanode of it chosen
   module _ (old lent : List Datanode) (e : lent ≡ nodes) (offer : Offer) (f : in_form offer ≡ true) (rows : Rows offer.rows nodes) (header : ClientOperationHeader) (c : Copies transfers header lent (choice_of lent old) s r t) where

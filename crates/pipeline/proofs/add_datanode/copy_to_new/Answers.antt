@@ -4,14 +4,14 @@ use Rattle.pipeline.specs.Adding.{Line, Copied, Copies}
 use Rattle.pipeline.proofs.Choosing.{chosen}
 use Rattle.pipeline.proofs.add_datanode.copy_to_new.Goals as goal
 
-pub offset-bounds-list-source : goal.offset-bounds-list-source
-offset-bounds-list-source g c = let h = (chosen c.args.list.now c.args.old.now c.in-Ok.places c.in-Ok.ensures).1 in search rules
+pub offset_bounds-list-source : goal.offset_bounds-list-source
+offset_bounds-list-source g c = let h = (chosen c.args.list.now c.args.old.now c.in-Ok.places c.in-Ok.ensures).1 in search rules
 
 pub bounds-list-source : goal.bounds-list-source
 bounds-list-source g c = (chosen c.args.list.now c.args.old.now c.in-Ok.places c.in-Ok.ensures).1
 
-pub offset-bounds-list-new : goal.offset-bounds-list-new
-offset-bounds-list-new g c = let h = (chosen c.args.list.now c.args.old.now c.in-Ok.places c.in-Ok.ensures).0 in search rules
+pub offset_bounds-list-new : goal.offset_bounds-list-new
+offset_bounds-list-new g c = let h = (chosen c.args.list.now c.args.old.now c.in-Ok.places c.in-Ok.ensures).0 in search rules
 
 pub bounds-list-new : goal.bounds-list-new
 bounds-list-new g c = (chosen c.args.list.now c.args.old.now c.in-Ok.places c.in-Ok.ensures).0

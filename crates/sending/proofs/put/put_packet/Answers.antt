@@ -3,25 +3,25 @@ use Rattle.packet.specs.Frame.{summed}
 use Rattle.sending.proofs.Frames.{unfit, fit, within, front}
 use Rattle.sending.proofs.put.put_packet.Goals as goal
 
-pub returns-in-default : goal.returns-in-default
-returns-in-default g c =
-    let p = summed c.args.chunk-size c.args.packet in
-    let no = unfit p c.args.frame.now c.in-default.ensures.value in
+pub returns-in_default : goal.returns-in_default
+returns-in_default g c =
+    let p = summed c.args.chunk_size c.args.packet in
+    let no = unfit p c.args.frame.now c.in_default.ensures.value in
     let z : true ≡ false = sym c.requires ∙ no in
     let y : ◌≡◌ {A = ℕ} 0 1 = cc in
     absurd (omega arith)
 
-pub slice-bounds-put-end : goal.slice-bounds-put-end
-slice-bounds-put-end g c =
-    let p = summed c.args.chunk-size c.args.packet in
+pub slice_bounds-put-end : goal.slice_bounds-put-end
+slice_bounds-put-end g c =
+    let p = summed c.args.chunk_size c.args.packet in
     let ends = c.in-Some.ensures in
-    within p c.args.frame.now c.in-Some.end ends.value c.write-frame.new.buf ends.after
+    within p c.args.frame.now c.in-Some.end ends.value c.write_frame.new.buf ends.after
 
 pub returns : goal.returns
 returns g c =
-    let p = summed c.args.chunk-size c.args.packet in
+    let p = summed c.args.chunk_size c.args.packet in
     let ends = c.in-Some.ensures in
     record {
-      put = subst (λ (z : _). g.L.Link.puts c.args.link.now z c.put.result c.put.new.self) (front p c.args.frame.now c.in-Some.end ends.value c.write-frame.new.buf ends.after (c.in-Some.end - 0) (omega arith)) c.put.ensures;
+      put = subst (λ (z : _). g.L.Link.puts c.args.link.now z c.put.result c.put.new.self) (front p c.args.frame.now c.in-Some.end ends.value c.write_frame.new.buf ends.after (c.in-Some.end - 0) (omega arith)) c.put.ensures;
       frame = ends.after;
     }

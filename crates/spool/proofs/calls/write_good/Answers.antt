@@ -12,4 +12,4 @@ returns c =
     let n = c.args.nodes in
     let all : n - 0 ≡ n = omega arith in
     let z : take {A = ℕ} (n - 0) (replicate 8 0) ≡ replicate n 0 = ap (λ m. take {A = ℕ} m (replicate 8 0)) all ∙ zeros n 8 c.requires in
-    subst (λ replies. answered c.args.seqno replies c.args.answer.now c.write-ack.new.out c.write-ack.result) z c.write-ack.ensures
+    subst (λ replies. answered c.args.seqno replies c.args.answer.now c.write_ack.new.out c.write_ack.result) z c.write_ack.ensures
