@@ -12,12 +12,12 @@ loop-i-preserved c =
     let more = c.args.more.now in
     let i = c.loop-i.i in
     let x = c.index-replicas-i.result in
-    let v = c.extend-from-slice.new.self in
+    let v = c.extend_from_slice.new.self in
     let inv = c.loop-i.invariant in
     let there = same_there rs es more i x v inv.0 inv.1 inv.2 c.loop-i-test.true c.index-replicas-i.is in
     let room = room_at es (length more) i x c.requires c.loop-i-test.true there in
-    let ok = c.extend-from-slice.ensures.succeeds (subst (λ z. vec_len z + length more ≤ vec_capacity z) c.index-replicas-i.is room) in
-    let items = c.extend-from-slice.ensures.items ∙ cond-true _ _ _ ok ∙ ap (λ z. vec_items z ++ more) (sym c.index-replicas-i.is) in (
+    let ok = c.extend_from_slice.ensures.succeeds (subst (λ z. vec_len z + length more ≤ vec_capacity z) c.index-replicas-i.is room) in
+    let items = c.extend_from_slice.ensures.items ∙ cond-true _ _ _ ok ∙ ap (λ z. vec_items z ++ more) (sym c.index-replicas-i.is) in (
       grown rs es more i x v inv.0 inv.1 inv.2 c.loop-i-test.true c.index-replicas-i.is items,
       kept_left rs es more i x v inv.0 inv.1 inv.2 c.loop-i-test.true c.index-replicas-i.is,
       kept_long rs es more i x v inv.0 inv.1 inv.2 c.loop-i-test.true c.index-replicas-i.is,

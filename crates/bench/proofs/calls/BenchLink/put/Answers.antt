@@ -6,20 +6,20 @@ use Rattle.bench.specs.Replicas.{copies, mirrored}
 use Rattle.bench.specs.Mirrors.{mirrored_more, put_bytes}
 use Rattle.bench.proofs.calls.BenchLink.put.Goals as goal
 
-pub invariant-of-self-then-packet : goal.invariant-of-self-then-packet
-invariant-of-self-then-packet c =
+pub invariant_of-self-then-packet : goal.invariant_of-self-then-packet
+invariant_of-self-then-packet c =
     let s = c.args.self.now in
     let v = view_of s.lead in
     let w = view_of c.put.new.self in
-    let ws = c.append-all.new.replicas in
+    let ws = c.append_all.new.replicas in
     let bytes = put_bytes v w c.args.frame.now _ c.in-Some.ensures c.if-not-put.ensures ∙ cond-false _ _ _ (ne_eqb _ _ c.if-packet.true) in
-    let long : length ws ≡ vec_len s.mirrors = c.append-all.auto.replicas ∙ c.as-mut-slice.ensures.len in
+    let long : length ws ≡ vec_len s.mirrors = c.append_all.auto.replicas ∙ c.as_mut_slice.ensures.len in
     let items = take_at ws _ (vec_len s.mirrors) long in
-    let grown = ap copies items ∙ c.append-all.ensures ∙ ap (λ z. map (λ b. b ++ c.in-Some.packet.«data».now) (copies z)) c.as-mut-slice.ensures.value in
+    let grown = ap copies items ∙ c.append_all.ensures ∙ ap (λ z. map (λ b. b ++ c.in-Some.packet.«data».now) (copies z)) c.as_mut_slice.ensures.value in
     ((λ i. mirrored (bytes i) (grown i)) ∙ mirrored_more v.bytes c.in-Some.packet.«data».now (copies (vec_items s.mirrors)) s.same, tt)
 
-pub invariant-of-self-else-packet : goal.invariant-of-self-else-packet
-invariant-of-self-else-packet c =
+pub invariant_of-self-else-packet : goal.invariant_of-self-else-packet
+invariant_of-self-else-packet c =
     let s = c.args.self.now in
     let bytes = put_bytes (view_of s.lead) (view_of c.put.new.self) c.args.frame.now _ c.in-Some.ensures c.if-not-put.ensures ∙ cond-true _ _ _ (eq-eqb _ _ c.if-packet.false) in
     (ap (λ z. mirrored z (copies (vec_items s.mirrors))) bytes ∙ s.same, tt)

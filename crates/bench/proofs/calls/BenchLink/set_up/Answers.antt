@@ -6,14 +6,14 @@ use Rattle.bench.specs.Replicas.{mirrored}
 use Rattle.bench.specs.Mirrors.{mirrored_new, set_bytes}
 use Rattle.bench.proofs.calls.BenchLink.set_up.Goals as goal
 
-pub invariant-of-self-2 : goal.invariant-of-self-2
-invariant-of-self-2 c =
+pub invariant_of-self-2 : goal.invariant_of-self-2
+invariant_of-self-2 c =
     let s = c.args.self.now.lead in
     let v = view_of s in
     let least = c.args.least in
-    let w = view_of c.set-up.new.self in
-    let made = c.in-Some-copies-of.ensures in
-    let bytes = set_bytes (setup_of c.args.request.now) c.in-Some.setup v least w c.in-Some.ensures c.in-Some-set-up.ensures.1.1.1 in
+    let w = view_of c.set_up.new.self in
+    let made = c.in-Some-copies_of.ensures in
+    let bytes = set_bytes (setup_of c.args.request.now) c.in-Some.setup v least w c.in-Some.ensures c.in-Some-set_up.ensures.1.1.1 in
     let enough : least ≤ v.kept = omega (arith, c.if-least-kept.false, ap length c.kept-kept.ensures, length-take v.kept v.bytes) in
     let all : least - 0 ≡ least = omega arith in
     let part = ap (λ z. take (least - 0) z) c.kept-kept.ensures ∙ ap (λ n. take n (take v.kept v.bytes)) all ∙ take-take least v.kept v.bytes enough in

@@ -7,6 +7,6 @@ pub returns : goal.returns
 returns c =
     let s = c.args.self.now in (
       omega (arith, c.if-i-len.false, c.len.ensures, s.mirrors.ok.0),
-      c.as-slice.ensures.value
+      c.as_slice.ensures.value
           ∙ mirrored_at (view_of s.lead).bytes (vec_items s.mirrors) c.args.i _ s.same (omega (arith, c.if-i-len.false, c.len.ensures, s.mirrors.ok.0)) c.index.ensures,
     )
