@@ -4,5 +4,5 @@ use Rattle.writer.proofs.open.slots_in.Goals as goal
 
 pub returns : goal.returns
 returns c =
-    let e : c.min.result ≡ min 101 (c.args.store-len / c.args.capacity) = search rules in
-    record { value = e; bounds = slots_bound c.min.result c.args.store-len c.args.capacity c.requires.0 c.requires.1 e }
+    let e : c.min.result ≡ min 101 (c.args.store_len / c.args.capacity) = search rules in
+    record { value = e; bounds = slots_bound c.min.result c.args.store_len c.args.capacity c.requires.0 c.requires.1 e }

@@ -5,8 +5,8 @@ use Rattle.writer.specs.Opening.{capacity_in}
 use Rattle.writer.proofs.Openings.{store_fits}
 use Rattle.writer.proofs.open.terms_for.Goals as goal
 
-pub slots-in-requires : goal.slots-in-requires
-slots-in-requires c =
+pub slots_in-requires : goal.slots_in-requires
+slots_in-requires c =
     let o = c.args.opening in
     let z = c.args.size in
     let e : c.capacity.result ≡ capacity_in o = c.capacity.ensures ∙ ap (λ (k : ℕ). capacity_of 4 k z.packet) c.requires.0.0 ∙ ap (λ (k : ℕ). capacity_of 4 o.chunk_size k) c.requires.0.1 in

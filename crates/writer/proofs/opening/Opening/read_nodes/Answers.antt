@@ -6,14 +6,14 @@ use Rattle.writer.specs.Opening.{rows_in}
 use Rattle.writer.proofs.Listing.{rows_long}
 use Rattle.writer.proofs.opening.Opening.read_nodes.Goals as goal
 
-pub returns-in-default : goal.returns-in-default
-returns-in-default c =
+pub returns-in_default : goal.returns-in_default
+returns-in_default c =
     let o = c.args.self in
     let rows = rows_in o in
     let h : c.loop-i.i < length rows = omega (arith, c.loop-i-test.true, rows_long o.infos.now o.storage_ids.now o.storage_types.now c.requires.1.0 c.requires.1.1) in
     let x = row_in c.row.result in
     record {
-      rows = out_of_form rows c.loop-i.i x h c.row.ensures c.loop-i.invariant.1 c.in-default.ensures;
+      rows = out_of_form rows c.loop-i.i x h c.row.ensures c.loop-i.invariant.1 c.in_default.ensures;
       count = omega (arith, c.loop-i.list.rows.ok.0, c.loop-i.invariant.2, c.loop-i-test.true);
       capacity = c.loop-i.invariant.3 ∙ c.clear.ensures.capacity;
     }

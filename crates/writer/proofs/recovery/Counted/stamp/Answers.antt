@@ -5,8 +5,8 @@ use Rattle.writer.proofs.recovery.Counted.stamp.Goals as goal
 
 pub returns-in-Some-new : goal.returns-in-Some-new
 returns-in-Some-new g c =
-    let octets = g.N.NamenodeProtocol.token c.update-block-for-pipeline.new.self in
-    let same = c.stamp-token.ensures in
+    let octets = g.N.NamenodeProtocol.token c.update_block_for_pipeline.new.self in
+    let same = c.stamp_token.ensures in
     let e = c.in-Some-new.ensures in
     let good : is_token octets ≡ true = ap is_token (sym same) ∙ e.0 in
     record {

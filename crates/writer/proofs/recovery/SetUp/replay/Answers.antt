@@ -8,13 +8,13 @@ use Rattle.writer.specs.Views.{view_of, chunk_of, held_in}
 use Rattle.writer.proofs.Replaying.{Onward, one_more, one_lost, none_left}
 use Rattle.writer.proofs.recovery.SetUp.replay.Goals as goal
 
-pub overflow-add-offset : goal.overflow-add-offset
-overflow-add-offset g c =
+pub overflow_add-offset : goal.overflow_add-offset
+overflow_add-offset g c =
     let w = c.args.writer.now in
     let sizes = sizes_of (vec_items w.held.records) in
     let s = w.terms.slots in
     let i = c.packets.i in
-    omega (arith, c.packets.invariant.1, c.held-len.ensures.value, total_more s sizes i w.first, total_le s sizes (i + 1) w.count w.first (omega arith), w.sums, w.ends, w.limit, c.requires.0)
+    omega (arith, c.packets.invariant.1, c.held_len.ensures.value, total_more s sizes i w.first, total_le s sizes (i + 1) w.count w.first (omega arith), w.sums, w.ends, w.limit, c.requires.0)
 
 pub packets-preserved : goal.packets-preserved
 packets-preserved g c =
@@ -29,16 +29,16 @@ packets-preserved g c =
     let fin = ended w.state in
     let inv = c.packets.invariant in
     let bytes = slot_of k s store (w.first + i) (size_at s sizes (w.first + i)) in
-    let last : c.is-last-last.result ≡ last_at fin (w.count - i - 1) = c.is-last-last.ensures ∙ ap (λ (f : Bool). last_at f (w.count - i - 1)) c.has-ended-finished.ensures in
-    let act = subst (λ (b : Bool). g.L.Link.puts c.packets.link (octets_of (packet_of u o (w.first + i) b bytes)) true c.put-held.new.link) last c.if-not-put-held.ensures.put in
-    let go = one_more g.L.Link.puts (held_in (view_of w) store c.args.self.least) c.args.frame.now c.args.link.now u k s sizes store fin i w.count w.first o c.packets.frame c.packets.link inv.3 (omega arith) c.put-held.new.link act in
-    let fr : c.put-held.new.frame ≡ over (packet_of u o (w.first + i) (last_at fin (w.count - i - 1)) bytes) c.packets.frame = c.if-not-put-held.ensures.frame ∙ ap (λ (b : Bool). over (packet_of u o (w.first + i) b bytes) c.packets.frame) last in
-    let go2 = subst (λ (f : List ℕ). Onward g.L.Link.puts (held_in (view_of w) store c.args.self.least) c.args.frame.now c.args.link.now (i + 1) (packets u k s sizes store fin (w.count - (i + 1)) (w.first + (i + 1)) (o + size_at s sizes (w.first + i))) f c.put-held.new.link) (sym fr) go in
-    let go3 = subst (λ (m : ℕ). Onward g.L.Link.puts (held_in (view_of w) store c.args.self.least) c.args.frame.now c.args.link.now (i + 1) (packets u k s sizes store fin (w.count - (i + 1)) (w.first + (i + 1)) (o + m)) c.put-held.new.frame c.put-held.new.link) (sym c.held-len.ensures.value) go2 in
-    (omega arith, omega (arith, inv.1, c.held-len.ensures.value, total_more s sizes i w.first), omega (arith, inv.2), go3)
+    let last : c.is_last-last.result ≡ last_at fin (w.count - i - 1) = c.is_last-last.ensures ∙ ap (λ (f : Bool). last_at f (w.count - i - 1)) c.has_ended-finished.ensures in
+    let act = subst (λ (b : Bool). g.L.Link.puts c.packets.link (octets_of (packet_of u o (w.first + i) b bytes)) true c.put_held.new.link) last c.if-not-put_held.ensures.put in
+    let go = one_more g.L.Link.puts (held_in (view_of w) store c.args.self.least) c.args.frame.now c.args.link.now u k s sizes store fin i w.count w.first o c.packets.frame c.packets.link inv.3 (omega arith) c.put_held.new.link act in
+    let fr : c.put_held.new.frame ≡ over (packet_of u o (w.first + i) (last_at fin (w.count - i - 1)) bytes) c.packets.frame = c.if-not-put_held.ensures.frame ∙ ap (λ (b : Bool). over (packet_of u o (w.first + i) b bytes) c.packets.frame) last in
+    let go2 = subst (λ (f : List ℕ). Onward g.L.Link.puts (held_in (view_of w) store c.args.self.least) c.args.frame.now c.args.link.now (i + 1) (packets u k s sizes store fin (w.count - (i + 1)) (w.first + (i + 1)) (o + size_at s sizes (w.first + i))) f c.put_held.new.link) (sym fr) go in
+    let go3 = subst (λ (m : ℕ). Onward g.L.Link.puts (held_in (view_of w) store c.args.self.least) c.args.frame.now c.args.link.now (i + 1) (packets u k s sizes store fin (w.count - (i + 1)) (w.first + (i + 1)) (o + m)) c.put_held.new.frame c.put_held.new.link) (sym c.held_len.ensures.value) go2 in
+    (omega arith, omega (arith, inv.1, c.held_len.ensures.value, total_more s sizes i w.first), omega (arith, inv.2), go3)
 
-pub returns-then-not-put-held : goal.returns-then-not-put-held
-returns-then-not-put-held g c =
+pub returns-then-not-put_held : goal.returns-then-not-put_held
+returns-then-not-put_held g c =
     let w = c.args.writer.now in
     let u = chunk_of (view_of w) in
     let k = capacity w.terms in
@@ -50,10 +50,10 @@ returns-then-not-put-held g c =
     let fin = ended w.state in
     let inv = c.packets.invariant in
     let bytes = slot_of k s store (w.first + i) (size_at s sizes (w.first + i)) in
-    let last : c.is-last-last.result ≡ last_at fin (w.count - i - 1) = c.is-last-last.ensures ∙ ap (λ (f : Bool). last_at f (w.count - i - 1)) c.has-ended-finished.ensures in
-    let act = subst (λ (b : Bool). g.L.Link.puts c.packets.link (octets_of (packet_of u o (w.first + i) b bytes)) false c.put-held.new.link) last c.if-not-put-held.ensures.put in
-    let fr : c.put-held.new.frame ≡ over (packet_of u o (w.first + i) (last_at fin (w.count - i - 1)) bytes) c.packets.frame = c.if-not-put-held.ensures.frame ∙ ap (λ (b : Bool). over (packet_of u o (w.first + i) b bytes) c.packets.frame) last in
-    let end = one_lost g.L.Link.puts (held_in (view_of w) store c.args.self.least) c.args.frame.now c.args.link.now u k s sizes store fin i w.count w.first o c.packets.frame c.packets.link inv.3 (omega arith) c.put-held.new.link act in
+    let last : c.is_last-last.result ≡ last_at fin (w.count - i - 1) = c.is_last-last.ensures ∙ ap (λ (f : Bool). last_at f (w.count - i - 1)) c.has_ended-finished.ensures in
+    let act = subst (λ (b : Bool). g.L.Link.puts c.packets.link (octets_of (packet_of u o (w.first + i) b bytes)) false c.put_held.new.link) last c.if-not-put_held.ensures.put in
+    let fr : c.put_held.new.frame ≡ over (packet_of u o (w.first + i) (last_at fin (w.count - i - 1)) bytes) c.packets.frame = c.if-not-put_held.ensures.frame ∙ ap (λ (b : Bool). over (packet_of u o (w.first + i) b bytes) c.packets.frame) last in
+    let end = one_lost g.L.Link.puts (held_in (view_of w) store c.args.self.least) c.args.frame.now c.args.link.now u k s sizes store fin i w.count w.first o c.packets.frame c.packets.link inv.3 (omega arith) c.put_held.new.link act in
     record { replays = rw fr end; stamp_is = refl }
 
 pub returns : goal.returns

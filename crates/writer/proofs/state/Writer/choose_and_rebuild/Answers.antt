@@ -8,15 +8,15 @@ use Rattle.writer.proofs.state.Writer.choose_and_rebuild.Goals as goal
 pub returns-in-Ok : goal.returns-in-Ok
 returns-in-Ok g c =
     let e = c.in-Ok.ensures in
-    let chain = vec_items c.choose-pipeline.new.self.chosen.rows in
+    let chain = vec_items c.choose_pipeline.new.self.chosen.rows in
     let r = c.rebuild.ensures in
     record {
       choice = Ok c.in-Ok.choice;
       chain = chain;
-      line = record { link = c.choose-pipeline.new.link; request = c.choose-pipeline.new.request; answer = c.choose-pipeline.new.answer };
-      namenode = c.choose-pipeline.new.namenode;
+      line = record { link = c.choose_pipeline.new.link; request = c.choose_pipeline.new.request; answer = c.choose_pipeline.new.answer };
+      namenode = c.choose_pipeline.new.namenode;
       chooses = e.acts;
-      then = subst (λ (v : View). AsksStamp g.L.Link.sets g.L.Link.puts g.L.Link.transfers g.N.NamenodeProtocol.lists g.N.NamenodeProtocol.stamps g.N.NamenodeProtocol.updates v c.args.store.now c.args.time c.in-Ok.choice chain c.args.frame.now (record { link = c.choose-pipeline.new.link; request = c.choose-pipeline.new.request; answer = c.choose-pipeline.new.answer }) c.choose-pipeline.new.namenode c.rebuild.result (view_of c.rebuild.new.self) (record { link = c.rebuild.new.link; namenode = c.rebuild.new.namenode; frame = c.rebuild.new.frame; request = c.rebuild.new.request; answer = c.rebuild.new.answer })) e.view r;
+      then = subst (λ (v : View). AsksStamp g.L.Link.sets g.L.Link.puts g.L.Link.transfers g.N.NamenodeProtocol.lists g.N.NamenodeProtocol.stamps g.N.NamenodeProtocol.updates v c.args.store.now c.args.time c.in-Ok.choice chain c.args.frame.now (record { link = c.choose_pipeline.new.link; request = c.choose_pipeline.new.request; answer = c.choose_pipeline.new.answer }) c.choose_pipeline.new.namenode c.rebuild.result (view_of c.rebuild.new.self) (record { link = c.rebuild.new.link; namenode = c.rebuild.new.namenode; frame = c.rebuild.new.frame; request = c.rebuild.new.request; answer = c.rebuild.new.answer })) e.view r;
     }
 
 pub returns-in-Err : goal.returns-in-Err
@@ -24,9 +24,9 @@ returns-in-Err g c =
     let e = c.in-Err.ensures in
     record {
       choice = Err c.in-Err.why;
-      chain = vec_items c.choose-pipeline.new.self.chosen.rows;
-      line = record { link = c.choose-pipeline.new.link; request = c.choose-pipeline.new.request; answer = c.choose-pipeline.new.answer };
-      namenode = c.choose-pipeline.new.namenode;
+      chain = vec_items c.choose_pipeline.new.self.chosen.rows;
+      line = record { link = c.choose_pipeline.new.link; request = c.choose_pipeline.new.request; answer = c.choose_pipeline.new.answer };
+      namenode = c.choose_pipeline.new.namenode;
       chooses = e.acts;
-      then = ((ap Err c.close-by.ensures.value, c.close-by.ensures.view ∙ ap (with_state Closed) e.view), refl, refl, refl);
+      then = ((ap Err c.close_by.ensures.value, c.close_by.ensures.view ∙ ap (with_state Closed) e.view), refl, refl, refl);
     }

@@ -4,13 +4,13 @@ use Rattle.held.proofs.Packets.{total_first}
 use Rattle.writer.specs.Sizes.{room_at}
 use Rattle.writer.proofs.state.Writer.drop_first.Goals as goal
 
-pub overflow-sub-self-2 : goal.overflow-sub-self-2
-overflow-sub-self-2 c =
+pub overflow_sub-self-2 : goal.overflow_sub-self-2
+overflow_sub-self-2 c =
     let w = c.args.self.now in
-    omega (arith, c.len-at-len.ensures, w.sums, total_first w.terms.slots (sizes_of (vec_items w.held.records)) w.count w.first c.requires)
+    omega (arith, c.len_at-len.ensures, w.sums, total_first w.terms.slots (sizes_of (vec_items w.held.records)) w.count w.first c.requires)
 
-pub invariant-of-self : goal.invariant-of-self
-invariant-of-self c =
+pub invariant_of-self : goal.invariant_of-self
+invariant_of-self c =
     let w = c.args.self.now in
     let t = total_first w.terms.slots (sizes_of (vec_items w.held.records)) w.count w.first c.requires in
     let next : w.first + w.count ≡ w.first + 1 + (w.count - 1) = omega (arith, c.requires) in (
@@ -23,7 +23,7 @@ invariant-of-self c =
             subst (λ (n : ℕ). w.filling ≤ room_at w.terms n) next w.fits,
             (
               w.small,
-              (omega (arith, c.len-at-len.ensures, w.sums, t), (omega (arith, w.numbers, c.requires), (omega (arith, w.ends), (w.limit, (w.done, (w.few, (w.places, (w.widths, tt)))))))),
+              (omega (arith, c.len_at-len.ensures, w.sums, t), (omega (arith, w.numbers, c.requires), (omega (arith, w.ends), (w.limit, (w.done, (w.few, (w.places, (w.widths, tt)))))))),
             ),
           ),
         ),

@@ -5,8 +5,8 @@ use Rattle.writer.specs.Admits.{lens_of}
 use Rattle.writer.proofs.Admitted.{finishes_fit, fits_state, fits_room, streams_finish}
 use Rattle.writer.proofs.state.Writer.finish.Goals as goal
 
-pub end-block-requires : goal.end-block-requires
-end-block-requires g c =
+pub end_block-requires : goal.end_block-requires
+end_block-requires g c =
     let v = view_of c.args.self.now in
     let l = lens_of c.args.store.now c.args.frame.now c.args.request.now c.args.answer.now in
     let fit = finishes_fit v l (sym c.in-None.ensures) in

@@ -5,8 +5,8 @@ use Rattle.writer.specs.Sizes.{capacity}
 use Rattle.writer.proofs.Rooms.{filling_small, sizes_table}
 use Rattle.writer.proofs.state.Writer.hold.Goals as goal
 
-pub invariant-of-self : goal.invariant-of-self
-invariant-of-self c =
+pub invariant_of-self : goal.invariant_of-self
+invariant_of-self c =
     let w = c.args.self.now in
     let sizes = sizes_of (vec_items w.held.records) in
     let s = w.terms.slots in

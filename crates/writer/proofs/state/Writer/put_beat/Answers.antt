@@ -5,9 +5,9 @@ use Rattle.packet.proofs.Room.{size_fits}
 use Rattle.writer.specs.Sizes.{capacity}
 use Rattle.writer.proofs.state.Writer.put_beat.Goals as goal
 
-pub put-packet-sent-requires : goal.put-packet-sent-requires
-put-packet-sent-requires g c =
+pub put_packet-sent-requires : goal.put_packet-sent-requires
+put_packet-sent-requires g c =
     let w = c.args.self.now in
-    let p : WritePacket = record { offset = 0; seqno = 18446744073709551615; last = false; «data» = c.bytes-at.result } in
-    let long : length c.bytes-at.result.now ≤ capacity w.terms = omega (arith, ap length c.bytes-at.ensures, length-take 0 (drop 0 c.args.store.now)) in
-    subst (λ (k : ℕ). fits_in (summed k p) c.args.frame.now ≡ true) (sym c.chunk-size.ensures) (size_fits w.terms.size (summed w.terms.size.chunk p) c.args.frame.now refl long c.requires.1)
+    let p : WritePacket = record { offset = 0; seqno = 18446744073709551615; last = false; «data» = c.bytes_at.result } in
+    let long : length c.bytes_at.result.now ≤ capacity w.terms = omega (arith, ap length c.bytes_at.ensures, length-take 0 (drop 0 c.args.store.now)) in
+    subst (λ (k : ℕ). fits_in (summed k p) c.args.frame.now ≡ true) (sym c.chunk_size.ensures) (size_fits w.terms.size (summed w.terms.size.chunk p) c.args.frame.now refl long c.requires.1)

@@ -5,13 +5,13 @@ use Rattle.packet.proofs.Room.{size_fits}
 use Rattle.writer.specs.Sizes.{capacity}
 use Rattle.writer.proofs.state.Writer.put_held.Goals as goal
 
-pub bytes-at-requires : goal.bytes-at-requires
-bytes-at-requires g c = omega (arith, c.slot-of.ensures.within, c.held-len.ensures.within, c.requires.0)
+pub bytes_at-requires : goal.bytes_at-requires
+bytes_at-requires g c = omega (arith, c.slot_of.ensures.within, c.held_len.ensures.within, c.requires.0)
 
-pub put-packet-requires : goal.put-packet-requires
-put-packet-requires g c =
+pub put_packet-requires : goal.put_packet-requires
+put_packet-requires g c =
     let w = c.args.self.now in
-    let p : WritePacket = record { offset = c.args.offset; seqno = c.args.seqno; last = c.args.last; «data» = c.bytes-at.result } in
-    let long : length c.bytes-at.result.now ≤ capacity w.terms =
-    omega (arith, ap length c.bytes-at.ensures, length-take c.held-len.result (drop c.slot-of.result c.args.store.now), c.held-len.ensures.within) in
-    subst (λ (k : ℕ). fits_in (summed k p) c.args.frame.now ≡ true) (sym c.chunk-size.ensures) (size_fits w.terms.size (summed w.terms.size.chunk p) c.args.frame.now refl long c.requires.1)
+    let p : WritePacket = record { offset = c.args.offset; seqno = c.args.seqno; last = c.args.last; «data» = c.bytes_at.result } in
+    let long : length c.bytes_at.result.now ≤ capacity w.terms =
+    omega (arith, ap length c.bytes_at.ensures, length-take c.held_len.result (drop c.slot_of.result c.args.store.now), c.held_len.ensures.within) in
+    subst (λ (k : ℕ). fits_in (summed k p) c.args.frame.now ≡ true) (sym c.chunk_size.ensures) (size_fits w.terms.size (summed w.terms.size.chunk p) c.args.frame.now refl long c.requires.1)

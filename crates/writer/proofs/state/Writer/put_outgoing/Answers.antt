@@ -6,14 +6,14 @@ use Rattle.writer.specs.Sizes.{capacity}
 use Rattle.writer.proofs.Rooms.{filling_small}
 use Rattle.writer.proofs.state.Writer.put_outgoing.Goals as goal
 
-pub bytes-at-requires : goal.bytes-at-requires
-bytes-at-requires g c = let w = c.args.self.now in omega (arith, c.slot-start.ensures.within, filling_small w, c.requires.0)
+pub bytes_at-requires : goal.bytes_at-requires
+bytes_at-requires g c = let w = c.args.self.now in omega (arith, c.slot_start.ensures.within, filling_small w, c.requires.0)
 
-pub put-packet-requires : goal.put-packet-requires
-put-packet-requires g c =
+pub put_packet-requires : goal.put_packet-requires
+put_packet-requires g c =
     let w = c.args.self.now in
-    let p : WritePacket = record { offset = w.len - w.filling; seqno = w.first + w.count; last = c.has-ended.result; «data» = c.bytes-at.result } in
-    let long : length c.bytes-at.result.now ≤ capacity w.terms =
-    omega (arith, ap length c.bytes-at.ensures, length-take w.filling (drop c.slot-start.result c.args.store.now), filling_small w) in
-    let e = c.chunk-size.ensures in
+    let p : WritePacket = record { offset = w.len - w.filling; seqno = w.first + w.count; last = c.has_ended.result; «data» = c.bytes_at.result } in
+    let long : length c.bytes_at.result.now ≤ capacity w.terms =
+    omega (arith, ap length c.bytes_at.ensures, length-take w.filling (drop c.slot_start.result c.args.store.now), filling_small w) in
+    let e = c.chunk_size.ensures in
     subst (λ (k : ℕ). fits_in (summed k p) c.args.frame.now ≡ true) (sym e) (size_fits w.terms.size (summed w.terms.size.chunk p) c.args.frame.now refl long c.requires.1)

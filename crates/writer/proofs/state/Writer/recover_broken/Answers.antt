@@ -8,8 +8,8 @@ use Rattle.writer.specs.Views.{View, view_of}
 use Rattle.writer.proofs.Stamping.{survivors_few}
 use Rattle.writer.proofs.state.Writer.recover_broken.Goals as goal
 
-pub choose-and-rebuild-requires : goal.choose-and-rebuild-requires
-choose-and-rebuild-requires g c =
+pub choose_and_rebuild-requires : goal.choose_and_rebuild-requires
+choose_and_rebuild-requires g c =
     let x = c.in-None.ensures in
     let w = c.args.self.now in
     let e = x.view in
