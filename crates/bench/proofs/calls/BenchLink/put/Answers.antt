@@ -16,10 +16,10 @@ invariant_of-self-then-packet c =
     let long : length ws ≡ vec_len s.mirrors = c.append_all.auto.replicas ∙ c.as_mut_slice.ensures.len in
     let items = take_at ws _ (vec_len s.mirrors) long in
     let grown = ap copies items ∙ c.append_all.ensures ∙ ap (λ z. map (λ b. b ++ c.in-Some.packet.«data».now) (copies z)) c.as_mut_slice.ensures.value in
-    ((λ i. mirrored (bytes i) (grown i)) ∙ mirrored_more v.bytes c.in-Some.packet.«data».now (copies (vec_items s.mirrors)) s.same, tt)
+    record { same = (λ i. mirrored (bytes i) (grown i)) ∙ mirrored_more v.bytes c.in-Some.packet.«data».now (copies (vec_items s.mirrors)) s.same }
 
 pub invariant_of-self-else-packet : goal.invariant_of-self-else-packet
 invariant_of-self-else-packet c =
     let s = c.args.self.now in
     let bytes = put_bytes (view_of s.lead) (view_of c.put.new.self) c.args.frame.now _ c.in-Some.ensures c.if-not-put.ensures ∙ cond-true _ _ _ (eq-eqb _ _ c.if-packet.false) in
-    (ap (λ z. mirrored z (copies (vec_items s.mirrors))) bytes ∙ s.same, tt)
+    record { same = ap (λ z. mirrored z (copies (vec_items s.mirrors))) bytes ∙ s.same }

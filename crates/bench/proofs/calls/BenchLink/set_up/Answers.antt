@@ -17,4 +17,4 @@ invariant_of-self-2 c =
     let enough : least ≤ v.kept = omega (arith, c.if-least-kept.false, ap length c.kept-kept.ensures, length-take v.kept v.bytes) in
     let all : least - 0 ≡ least = omega arith in
     let part = ap (λ z. take (least - 0) z) c.kept-kept.ensures ∙ ap (λ n. take n (take v.kept v.bytes)) all ∙ take-take least v.kept v.bytes enough in
-    ((λ i. mirrored (bytes i) (made i)) ∙ ap (λ z. mirrored (take least v.bytes) (replicate (c.in-Some.setup.pipeline_size - 1) z)) part ∙ mirrored_new _ (take least v.bytes), tt)
+    record { same = (λ i. mirrored (bytes i) (made i)) ∙ ap (λ z. mirrored (take least v.bytes) (replicate (c.in-Some.setup.pipeline_size - 1) z)) part ∙ mirrored_new _ (take least v.bytes) }
