@@ -52,7 +52,7 @@ module _ {L N : Type 0} (sets : L → Datanode → List ℕ → ℕ → Option (
           settles = settled x.setting x.settles;
           reply = x.reply;
           between = b;
-          sets_up_lem = x.sets-up;
+          sets_up = x.sets_up;
           then = subst (λ (k : Reply). Answered sets puts transfers lists stamps updates k v store time choice chain stamp token frame b n r w t) (sym e.0) z;
         }
 
@@ -65,6 +65,6 @@ module _ {L N : Type 0} (sets : L → Datanode → List ℕ → ℕ → Option (
       settles = settled x.setting x.settles;
       reply = x.reply;
       between = b;
-      sets_up_lem = x.sets-up;
+      sets_up = x.sets_up;
       then = err_reply x.reply least stamp e x.is v store time choice chain token frame b n r w t er ew ef el en;
     }

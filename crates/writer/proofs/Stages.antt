@@ -21,6 +21,6 @@ set_up_on sets v token nodes chain least stamp a request request' answer answer'
   setting = setting;
   settles = settles;
   reply = reply;
-  sets_up_lem = subst (λ (ns : List Datanode). SetsUp sets setting ns a request request' answer answer' reply b) e s;
+  sets_up = subst (λ (ns : List Datanode). SetsUp sets setting ns a request request' answer answer' reply b) e s;
   is = is;
 }

@@ -136,7 +136,7 @@ pub record Starts {L : Type 0} (sets : L → Datanode → List ℕ → ℕ → O
   pub setting : Setting
   pub settles : Settles (block_for o terms) token terms.client_name (stage_for o.initial_len) o.initial_len o.initial_len o.stamp o.chunk_size setting
   pub reply : Reply
-  pub sets_up_lem : SetsUp sets setting nodes a request request' answer answer' reply b
+  pub sets_up : SetsUp sets setting nodes a request request' answer answer' reply b
   pub then : Started reply o l token nodes r w
 
 -- a refusal before the set up leaves link and buffers

@@ -159,7 +159,7 @@ module _ {L N : Type 0} (sets : L → Datanode → List ℕ → ℕ → Option (
     pub settles : Settles (record_of v) token v.terms.client_name SetupStreamingRecovery (least_of v) v.len stamp (chunk_of v) setting
     pub reply : Reply
     pub between : L
-    pub sets_up_lem : SetsUp sets setting chain s.link s.request t.request s.answer t.answer reply between
+    pub sets_up : SetsUp sets setting chain s.link s.request t.request s.answer t.answer reply between
     pub then : Answered reply v store time choice chain stamp token frame between n r w t
 
   -- what follows a stamp: its token must be in form

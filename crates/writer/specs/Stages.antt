@@ -46,7 +46,7 @@ pub record SetsUpOn {L : Type 0} (sets : L → Datanode → List ℕ → ℕ →
   pub setting : Setting
   pub settles : Settles (record_of v) token v.terms.client_name SetupStreamingRecovery least v.len stamp (chunk_of v) setting
   pub reply : Reply
-  pub sets_up_lem : SetsUp sets setting chain a request request' answer answer' reply b
+  pub sets_up : SetsUp sets setting chain a request request' answer answer' reply b
   pub is : r ≡ built_on reply least stamp
 
 -- from set up to replayed

@@ -10,7 +10,7 @@ pub returns-in_default : goal.returns-in_default
 returns-in_default c =
     let o = c.args.self in
     let rows = rows_in o in
-    let h : c.loop-i.i < length rows = omega (arith, c.loop-i-test.true, rows_long o.infos.now o.storage_ids.now o.storage_types.now c.requires.1.0 c.requires.1.1) in
+    let h : c.loop-i.i < length rows = omega (arith, c.loop-i-test.true, rows_long o.infos.now o.storage_ids.now o.storage_types.now c.requires.storage_ids_len.0 c.requires.storage_ids_len.1) in
     let x = row_in c.row.result in
     record {
       rows = out_of_form rows c.loop-i.i x h c.row.ensures c.loop-i.invariant.1 c.in_default.ensures;
@@ -23,7 +23,7 @@ loop-i-preserved c =
     let o = c.args.self in
     let rows = rows_in o in
     let i = c.loop-i.i in
-    let h : i < length rows = omega (arith, c.loop-i-test.true, rows_long o.infos.now o.storage_ids.now o.storage_types.now c.requires.1.0 c.requires.1.1) in
+    let h : i < length rows = omega (arith, c.loop-i-test.true, rows_long o.infos.now o.storage_ids.now o.storage_types.now c.requires.storage_ids_len.0 c.requires.storage_ids_len.1) in
     let x = row_in c.row.result in
     let e = c.row.ensures in
     let inv = c.loop-i.invariant in
@@ -42,7 +42,7 @@ returns c =
     let o = c.args.self in
     let rows = rows_in o in
     let inv = c.loop-i.invariant in
-    let long = rows_long o.infos.now o.storage_ids.now o.storage_types.now c.requires.1.0 c.requires.1.1 in
+    let long = rows_long o.infos.now o.storage_ids.now o.storage_types.now c.requires.storage_ids_len.0 c.requires.storage_ids_len.1 in
     let h : length rows ≤ c.loop-i.i = omega (arith, c.loop-i-test.false, long) in
     record {
       rows = all_read rows c.loop-i.i (vec_items c.loop-i.list.rows) h inv.1 inv.0;

@@ -14,7 +14,7 @@ overflow_add-offset g c =
     let sizes = sizes_of (vec_items w.held.records) in
     let s = w.terms.slots in
     let i = c.packets.i in
-    omega (arith, c.packets.invariant.1, c.held_len.ensures.value, total_more s sizes i w.first, total_le s sizes (i + 1) w.count w.first (omega arith), w.sums, w.ends, w.limit, c.requires.0)
+    omega (arith, c.packets.invariant.1, c.held_len.ensures.value, total_more s sizes i w.first, total_le s sizes (i + 1) w.count w.first (omega arith), w.sums, w.ends, w.limit, c.requires.least_value)
 
 pub packets-preserved : goal.packets-preserved
 packets-preserved g c =

@@ -13,19 +13,18 @@ pub invariant_of-self : goal.invariant_of-self
 invariant_of-self c =
     let w = c.args.self.now in
     let t = total_first w.terms.slots (sizes_of (vec_items w.held.records)) w.count w.first c.requires in
-    let next : w.first + w.count ≡ w.first + 1 + (w.count - 1) = omega (arith, c.requires) in (
-      w.shape,
-      (
-        w.table,
-        (
-          omega (arith, w.room),
-          (
-            subst (λ (n : ℕ). w.filling ≤ room_at w.terms n) next w.fits,
-            (
-              w.small,
-              (omega (arith, c.len_at-len.ensures, w.sums, t), (omega (arith, w.numbers, c.requires), (omega (arith, w.ends), (w.limit, (w.done, (w.few, (w.places, (w.widths, tt)))))))),
-            ),
-          ),
-        ),
-      ),
-    )
+    let next : w.first + w.count ≡ w.first + 1 + (w.count - 1) = omega (arith, c.requires) in record {
+      shape = w.shape;
+      table = w.table;
+      room = omega (arith, w.room);
+      fits = subst (λ (n : ℕ). w.filling ≤ room_at w.terms n) next w.fits;
+      small = w.small;
+      sums = omega (arith, c.len_at-len.ensures, w.sums, t);
+      numbers = omega (arith, w.numbers, c.requires);
+      ends = omega (arith, w.ends);
+      limit = w.limit;
+      done = w.done;
+      few = w.few;
+      places = w.places;
+      widths = w.widths;
+    }

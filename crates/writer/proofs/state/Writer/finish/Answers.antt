@@ -11,4 +11,4 @@ end_block-requires g c =
     let l = lens_of c.args.store.now c.args.frame.now c.args.request.now c.args.answer.now in
     let fit = finishes_fit v l (sym c.in-None.ensures) in
     let room = fits_room v call.Finish l fit.0 in
-    (streams_finish v.state (fits_state v call.Finish l fit.0), room.store, room.frame, fit.1)
+    record { state_value = streams_finish v.state (fits_state v call.Finish l fit.0); store_len = room.store; terms_in_bounds = room.frame; self_bound = fit.1 }

@@ -8,7 +8,7 @@ use Rattle.writer.proofs.Turns.{begin, then_poured, then_handed, ends_lost, ends
 use Rattle.writer.proofs.state.Writer.pour.Goals as goal
 
 pub turns-init : goal.turns-init
-turns-init g c = (omega arith, c.requires.0, c.requires.1, c.requires.2, begin g.L.Link.puts _ c.args.bytes.now)
+turns-init g c = (omega arith, c.requires.state_value, c.requires.store_len, c.requires.terms_in_bounds, begin g.L.Link.puts _ c.args.bytes.now)
 
 pub returns-in-Stopped : goal.returns-in-Stopped
 returns-in-Stopped g c = let e = c.in-Stopped.ensures in ends_stopped g.L.Link.puts _ c.args.bytes.now c.turns.taken _ c.turns.invariant.4 _ e.0 e.1

@@ -10,4 +10,4 @@ put_packet-sent-requires g c =
     let w = c.args.self.now in
     let p : WritePacket = record { offset = 0; seqno = 18446744073709551615; last = false; «data» = c.bytes_at.result } in
     let long : length c.bytes_at.result.now ≤ capacity w.terms = omega (arith, ap length c.bytes_at.ensures, length-take 0 (drop 0 c.args.store.now)) in
-    subst (λ (k : ℕ). fits_in (summed k p) c.args.frame.now ≡ true) (sym c.chunk_size.ensures) (size_fits w.terms.size (summed w.terms.size.chunk p) c.args.frame.now refl long c.requires.1)
+    subst (λ (k : ℕ). fits_in (summed k p) c.args.frame.now ≡ true) (sym c.chunk_size.ensures) (size_fits w.terms.size (summed w.terms.size.chunk p) c.args.frame.now refl long c.requires.terms_in_bounds)

@@ -16,12 +16,12 @@ choose_and_rebuild-requires g c =
     let p = x.parted in
     let state = ap (λ (v : View). v.state) e in
     let terms = ap (λ (v : View). v.terms) e in
-    let few = survivors_few (failed_on w.state).positions (vec_items w.nodes.rows) in (
-      subst IsBrokenState (sym state) c.requires.0,
-      c.requires.1 ∙ ap (λ (t : Terms). t.store_len) (sym terms),
-      omega (arith, c.requires.2, ap frame_room terms),
-      c.requires.3,
-      p.0 ∙ ap left_of (sym e),
-      p.1 ∙ ap gone_of (sym e),
-      (p.2, omega (arith, ap length p.0, few, w.few, w.nodes.rows.ok.0)),
-    )
+    let few = survivors_few (failed_on w.state).positions (vec_items w.nodes.rows) in record {
+      is_broken = subst IsBrokenState (sym state) c.requires.is_broken;
+      store_len = c.requires.store_len ∙ ap (λ (t : Terms). t.store_len) (sym terms);
+      terms_in_bounds = omega (arith, c.requires.terms_in_bounds, ap frame_room terms);
+      in_bounds = c.requires.in_bounds;
+      rows_value = p.0 ∙ ap left_of (sym e);
+      rows_value_2 = p.1 ∙ ap gone_of (sym e);
+      in_bounds_2 = (p.2, omega (arith, ap length p.0, few, w.few, w.nodes.rows.ok.0));
+    }

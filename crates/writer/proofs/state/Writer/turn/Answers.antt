@@ -7,7 +7,7 @@ use Rattle.writer.proofs.state.Writer.turn.Goals as goal
 pub hand_over-requires : goal.hand_over-requires
 hand_over-requires g c =
     let w = c.args.self.now in
-    let on = c.requires.0 in
+    let on = c.requires.state_value in
     let none : last_ones w.state ≡ 0 = ap last_ones on in
     let some : 0 < w.filling = omega (arith, room_some w.terms (w.first + w.count), c.packet_capacity.ensures) in
-    (c.requires.1, c.requires.2, omega arith, omega (arith, w.numbers), none ∙ sym (ap (λ (s : State). cond (ended s) 1 0) on))
+    record { store_len = c.requires.store_len; terms_in_bounds = c.requires.terms_in_bounds; count_bound = omega arith; initial_len_bound = omega (arith, w.numbers); state_value = none ∙ sym (ap (λ (s : State). cond (ended s) 1 0) on) }
