@@ -1,12 +1,10 @@
 -- An answer's length, and what is read back of it. Assumes nothing.
-use Rattle.std.proofs.Common.{◌≡◌, ℕ, zero, suc, ◌+◌, ◌-◌, ◌*◌, ◌/◌, ◌%◌, ◌^◌, ◌<◌, ◌≤◌, true, cond, eqb, ltb, List, [], ◌∷◌, ◌++◌, map, length, replicate, Some, Ok, Err, Result, sym, refl, ap, ◌∙◌, ⊎_elim, mul-le-mul_right, arith}
+use Rattle.std.proofs.Common.{◌≡◌, ℕ, zero, suc, ◌+◌, ◌-◌, ◌*◌, ◌%◌, ◌^◌, ◌<◌, ◌≤◌, eqb, ltb, List, [], ◌∷◌, ◌++◌, map, length, replicate, Some, Ok, Err, Result, sym, refl, ap, ◌∙◌, ⊎_elim, mul-le-mul_right, arith}
 use Rattle.std.proofs.lemmas.List.{append_assoc, append-nil}
 use Rattle.std.proofs.lemmas.Bool.{cond-true, cond-false, lt-ltb, le-ltb, eq-eqb, ne_eqb, cases_lt}
 use Rattle.wire.specs.declared.field.DecodeError.{DecodeError}
-use Rattle.wire.specs.declared.field.Fault.{Fault}
-use Rattle.wire.specs.Fields.{WireField, varint, varint_bytes, encode_all}
+use Rattle.wire.specs.Fields.{varint, varint_bytes, encode_all}
 use Rattle.wire.specs.Laws.{AllSound, merge_all, unplaced}
-use Rattle.wire.specs.Read.{decoded}
 use Rattle.wire.proofs.Back.{decode_back}
 use Rattle.wire.proofs.Lengths.{number_bound, all_length, rows_bound}
 use Rattle.ack.specs.Acks.{AckFields, zigzag, merge_ack, no_fields, ack_of}

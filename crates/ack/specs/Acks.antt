@@ -1,5 +1,5 @@
 -- PipelineAckProto: what the octets of a pipeline's answer say. Assumes nothing.
-use Rattle.std.specs.Prelude.{ℕ, ◌-◌, ◌/◌, ◌%◌, ◌^◌, Bool, cond, ◌&&◌, ◌||◌, List, [], ◌∷◌, ◌++◌, Ok, Err, Result, ◌==◌, nat_lt}
+use Rattle.std.specs.Prelude.{ℕ, ◌-◌, ◌/◌, ◌%◌, ◌^◌, Bool, cond, ◌&&◌, List, [], ◌∷◌, ◌++◌, Ok, Err, Result, ◌==◌, nat_lt}
 use Rattle.wire.specs.declared.field.Fault.{Fault}
 use Rattle.wire.specs.declared.field.Fault.TheVariants as fault
 use Rattle.wire.specs.declared.field.DecodeError.{DecodeError}

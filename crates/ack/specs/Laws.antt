@@ -1,5 +1,5 @@
 -- What holds of every answer. Assumes nothing.
-use Rattle.std.specs.Prelude.{◌≡◌, ℕ, ◌≤◌, true, not, List, [], ◌∷◌, ◌++◌, length, drop, Ok, ◌==◌, ◌≢◌, slice_index}
+use Rattle.std.specs.Prelude.{◌≡◌, ℕ, ◌≤◌, true, not, List, ◌∷◌, ◌++◌, drop, Ok, ◌==◌, ◌≢◌, slice_index}
 use Rattle.wire.specs.Read.{and_then, varint_at}
 use Rattle.ack.specs.Packed.{numbers_of}
 use Rattle.ack.specs.Failures.{known, failures, has, failed_nodes}

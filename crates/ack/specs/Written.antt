@@ -1,7 +1,7 @@
 -- A pipeline's answer as datanodes write it. Assumes nothing.
-use Rattle.std.specs.Prelude.{◌≡◌, ℕ, ◌+◌, ◌-◌, ◌*◌, ◌^◌, ◌<◌, ◌≤◌, Bool, true, false, cond, ◌&&◌, List, [], ◌∷◌, ◌++◌, map, length, drop, Some, None, Ok, Option, nat_le, nat_lt}
+use Rattle.std.specs.Prelude.{◌≡◌, ℕ, ◌+◌, ◌-◌, ◌*◌, ◌^◌, ◌<◌, ◌≤◌, false, cond, ◌&&◌, List, [], ◌∷◌, ◌++◌, map, length, drop, Some, None, Ok, Option, nat_le, nat_lt}
 use Rattle.wire.specs.Fields.{WireField, varint, encode_all}
-use Rattle.ack.specs.Acks.{AckFields, ack_of}
+use Rattle.ack.specs.Acks.{ack_of}
 
 -- a signed number, held as its 64 bits, written zigzag: 0, -1, 1, -2, .. as 0, 1, 2, 3, ..
 abbrev pub zag : ℕ → ℕ

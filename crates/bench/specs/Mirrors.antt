@@ -10,7 +10,7 @@ use Rattle.packet.proofs.Reading.{unique}
 use Rattle.request.specs.declared.setup.Setup.{Setup}
 use Rattle.chain.specs.Meaning as meaning
 use Rattle.spool.specs.Calls.{SetsFor, Puts}
-use Rattle.spool.specs.Spools.{View, seen_in, takes, with_pending, put_taken, put_after}
+use Rattle.spool.specs.Spools.{View, seen_in, takes, with_pending}
 use Rattle.bench.specs.Replicas.{Bytes, copies, mirrored}
 
 same_refl : (bs : List ℕ) → bytes_eq bs bs ≡ true

@@ -1,5 +1,5 @@
 -- What a call of a link did: what was asked, what came, and what that leaves in the buffer that was lent. Assumes nothing.
-use Rattle.std.specs.Prelude.{◌≡◌, ℕ, ◌≤◌, Bool, true, false, List, ◌++◌, length, drop, Some, None, Option}
+use Rattle.std.specs.Prelude.{◌≡◌, ℕ, ◌≤◌, List, ◌++◌, length, drop, Some, None, Option}
 use Rattle.chain.specs.declared.link.Next.{Next}
 use Rattle.chain.specs.declared.link.Next.TheVariants.{Nothing, Lost, Answer}
 

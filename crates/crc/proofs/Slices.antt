@@ -1,13 +1,13 @@
 -- The register after a block, as entries of the table.
 -- Assumes nothing.
-use Rattle.std.proofs.Common.{◌≡◌, ℕ, zero, suc, ◌+◌, ◌-◌, ◌*◌, ◌/◌, ◌%◌, ◌^◌, ◌<◌, ◌≤◌, List, [], ◌∷◌, ◌++◌, length, get_or, take, drop, sym, refl, ap, ◌∙◌, ap₂, le_of_suc-le-suc, not-suc-le-zero, add-zero, add-suc, suc-add, zero-add, arith, take-add}
+use Rattle.std.proofs.Common.{◌≡◌, ℕ, suc, ◌+◌, ◌*◌, ◌/◌, ◌%◌, ◌^◌, ◌<◌, ◌≤◌, List, [], ◌∷◌, ◌++◌, length, get_or, take, drop, sym, refl, ap, ◌∙◌, ap₂, zero-add, arith, take-add}
 use lib.Bits.{bit_xor, bit_and, xor_assoc, xor_comm, xor_self, xor_zero_r, xor_shifted, and_mask}
-use Rattle.std.proofs.lemmas.Nat.{mod_below, shr_split, shr-shr, div-mul-add, mod-mul-add}
+use Rattle.std.proofs.lemmas.Nat.{mod_below, shr-shr}
 use Rattle.std.proofs.lemmas.List.{take-append-drop, length-take, length-drop, length-append, drop-drop, drop_more, drop_all}
 use Rattle.crc.specs.Crc.{steps, after, entry, table_of}
 use Rattle.crc.specs.Laws.{packed}
 use Rattle.crc.proofs.Rows.{byte_out, table_at}
-use Rattle.crc.proofs.Linear.{left_comm, steps_xor, steps_add, steps_shift, after_append, after_is}
+use Rattle.crc.proofs.Linear.{steps_xor, steps_add, after_append, after_is}
 
 last : (p k w : ℕ) → steps p (8 * (k + 1)) (w / 65536 / 256) ≡ entry p k (w / 16777216)
 unfolding entry

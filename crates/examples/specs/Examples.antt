@@ -1,5 +1,5 @@
 -- Worked examples, of the definitions that the contracts of the code cite. Assumes nothing.
-use Rattle.std.specs.Prelude.{◌≡◌, ℕ, ◌+◌, ◌-◌, ◌^◌, true, false, List, [], ◌∷◌, Ok, Err}
+use Rattle.std.specs.Prelude.{◌≡◌, ℕ, ◌+◌, ◌-◌, ◌^◌, true, false, [], ◌∷◌, Ok, Err}
 use Rattle.packet.specs.declared.size.settings.SizeError.TheVariants as error
 use Rattle.packet.specs.Accepted.{settings_of}
 use Rattle.packet.specs.Sizes.{capacity_of, first_capacity_of}

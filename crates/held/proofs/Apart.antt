@@ -1,10 +1,9 @@
 -- Two packets that are held at one time have two slots, so that one changed leaves the others. Assumes nothing.
-use Rattle.std.proofs.Common.{◌≡◌, ℕ, zero, suc, ◌+◌, ◌-◌, ◌*◌, ◌%◌, ◌<◌, ◌≤◌, Bool, true, false, ◌≢◌, ◌⊎◌, List, [], ◌∷◌, ◌++◌, length, get_or, take, drop, set, sym, refl, ap, ◌∙◌, subst, inl, inr, ⊎_elim, append_assoc, not-suc-le-zero, mod-lt, mod-eq_of_lt, suc-mul, arith, get_or-set_other, get_or-set_same}
+use Rattle.std.proofs.Common.{◌≡◌, ℕ, zero, suc, ◌+◌, ◌-◌, ◌%◌, ◌<◌, ◌≤◌, Bool, false, ◌≢◌, List, [], ◌∷◌, ◌++◌, length, get_or, set, sym, refl, ap, ◌∙◌, ⊎_elim, mod-lt, mod-eq_of_lt, arith, get_or-set_other, get_or-set_same}
 use native.Mathlib.Nat.{mod-eq-sub-mod, mod-add-mod}
 use Rattle.std.proofs.lemmas.List.{append-nil}
 use Rattle.std.proofs.lemmas.Bool.{cases_lt}
-use Rattle.packet.specs.Frame.{Packet}
-use Rattle.held.specs.Slots.{total, size_at, slot_of, packet_of, last_at, packets, bytes_of}
+use Rattle.held.specs.Slots.{total, size_at, slot_of, packet_of, packets, bytes_of}
 use Rattle.held.proofs.Packets.{packets_more, total_more, bytes_of_push, bytes_same}
 
 -- two packets that are less than s apart have two slots

@@ -1,12 +1,12 @@
 -- Bytes that come into the slot being filled. Assumes nothing.
-use Rattle.std.proofs.Common.{◌≡◌, ℕ, zero, suc, ◌+◌, ◌-◌, ◌*◌, ◌%◌, ◌<◌, ◌≤◌, Bool, true, false, ◌≢◌, ◌⊎◌, List, [], ◌∷◌, ◌++◌, length, get_or, take, drop, set, sym, refl, ap, ◌∙◌, subst, inl, inr, ⊎_elim, append_assoc, mul-le-mul_right, suc-mul, arith, length-append, length-drop, length-take}
+use Rattle.std.proofs.Common.{◌≡◌, ℕ, ◌+◌, ◌*◌, ◌%◌, ◌<◌, ◌≤◌, Bool, ◌≢◌, List, ◌++◌, length, get_or, take, drop, sym, refl, ap, ◌∙◌, ⊎_elim, append_assoc, mul-le-mul_right, suc-mul, arith, length-append, length-drop, length-take}
 use borrow.Rule.Slice.PartMut.{put_mid}
-use Rattle.std.proofs.lemmas.List.{drop-take, drop-append-le, append-nil}
+use Rattle.std.proofs.lemmas.List.{drop-take, drop-append-le}
 use Rattle.std.proofs.lemmas.Slice.{take-put_mid_below, take-put_mid, drop-put_mid}
 use Rattle.std.proofs.lemmas.Bool.{cases_lt}
 use Rattle.packet.specs.Frame.{Packet}
-use Rattle.held.specs.Slots.{total, size_at, slot_of, packets, bytes_of}
-use Rattle.held.proofs.Packets.{slot_within, slot_long}
+use Rattle.held.specs.Slots.{size_at, slot_of, packets, bytes_of}
+use Rattle.held.proofs.Packets.{slot_within}
 use Rattle.held.proofs.Apart.{slots_apart, packets_frame}
 
 -- a write to a part leaves what lies before it and after it, and adds to what ends where it begins

@@ -1,8 +1,8 @@
 -- The held packets from the front and from the end, and their bytes. Assumes nothing.
-use Rattle.std.proofs.Common.{◌≡◌, ℕ, zero, suc, ◌+◌, ◌-◌, ◌*◌, ◌%◌, ◌<◌, ◌≤◌, Bool, true, false, List, [], ◌∷◌, ◌++◌, length, get_or, take, drop, sym, refl, ap, ◌∙◌, subst, append_assoc, not-suc-le-zero, add-zero, add-suc, mul-le-mul_right, mod-lt, suc-mul, suc-add, add-one, sub-one, arith, length-append, length-drop, length-take}
+use Rattle.std.proofs.Common.{◌≡◌, ℕ, zero, suc, ◌+◌, ◌-◌, ◌*◌, ◌%◌, ◌<◌, ◌≤◌, Bool, false, List, [], ◌∷◌, ◌++◌, length, get_or, sym, refl, ap, ◌∙◌, append_assoc, not-suc-le-zero, add-zero, mul-le-mul_right, mod-lt, suc-mul, add-one, sub-one, arith, length-append, length-drop, length-take}
 use Rattle.std.proofs.lemmas.List.{append-nil}
 use Rattle.packet.specs.Frame.{Packet}
-use Rattle.held.specs.Slots.{total, size_at, slot_of, packet_of, last_at, packets, bytes_of, below}
+use Rattle.held.specs.Slots.{total, size_at, slot_of, packet_of, last_at, packets, bytes_of}
 
 -- a slot lies in the store
 pub slot_within : (k s n : ℕ) → 0 < s → (n % s) * k + k ≤ s * k

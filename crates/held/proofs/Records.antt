@@ -1,5 +1,5 @@
 -- A record changed, seen as the list of sizes. Assumes nothing.
-use Rattle.std.proofs.Common.{◌≡◌, ℕ, zero, suc, ◌<◌, ◌≤◌, List, [], ◌∷◌, map, length, get_or, set, replicate, sym, refl, ap, ◌∙◌, not-suc-le-zero, arith}
+use Rattle.std.proofs.Common.{◌≡◌, ℕ, zero, suc, ◌<◌, List, [], ◌∷◌, length, get_or, set, replicate, refl, ap, not-suc-le-zero, arith}
 use Rattle.held.specs.declared.table.HeldPacket.{HeldPacket}
 use Rattle.held.specs.Slots.{sizes_of}
 

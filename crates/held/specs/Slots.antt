@@ -1,5 +1,5 @@
 -- Where packets lie in the caller's store: packet n has the slot n % s, of k bytes. Assumes nothing.
-use Rattle.std.specs.Prelude.{ℕ, zero, suc, ◌+◌, ◌*◌, ◌%◌, Bool, true, false, List, [], ◌∷◌, ◌++◌, map, take, drop, slice_index}
+use Rattle.std.specs.Prelude.{ℕ, zero, suc, ◌+◌, ◌*◌, ◌%◌, Bool, false, List, [], ◌∷◌, ◌++◌, map, take, drop, slice_index}
 use Rattle.packet.specs.Frame.{Packet}
 use Rattle.packet.specs.Sums.{sums_of}
 use Rattle.held.specs.declared.table.HeldPacket.{HeldPacket}

@@ -1,7 +1,7 @@
 -- What a namenode has of a block, what it is asked, and what it offers. Assumes nothing.
-use Rattle.std.specs.Prelude.{◌≡◌, ℕ, zero, suc, Bool, true, false, List, [], ◌∷◌, map, length, Some, None, Option}
+use Rattle.std.specs.Prelude.{◌≡◌, ℕ, zero, suc, Bool, true, false, List, [], ◌∷◌, map, Some, None, Option}
 use Rattle.proto.specs.declared.datanode.Datanode.{Datanode}
-use Rattle.proto.specs.Messages.{held, info_of, id_of}
+use Rattle.proto.specs.Messages.{held, id_of}
 use Rattle.namenode.specs.declared.protocol.Offered.{Offered}
 
 -- the block's generation stamp and length, and where it is: the ids of its datanodes and the names of its storages on them

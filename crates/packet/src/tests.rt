@@ -32,7 +32,7 @@ fn heartbeat(rt: HostRuntime) {
     assert_eq!(rt; write_frame(&mut buf, packet, 512), Some(31));
     assert!(rt;
         &buf[0..32]
-            == b"\0\0\0\x04\0\x19\x09\0\0\0\0\0\0\0\0\x11\xff\xff\xff\xff\xff\xff\xff\xff\x18\0\x25\0\0\0\0\xee"
+            == b"\0\0\0\x04\0\x19\x09\0\0\0\0\0\0\0\0\x11\xff\xff\xff\xff\xff\xff\xff\xff\x18\0\x25\0\0\0\0\xee".as_slice()
     );
 }
 
@@ -47,7 +47,7 @@ fn round_trip(rt: HostRuntime) -> Result<(), Fail> {
         data: b"123456789123",
     };
     assert_eq!(rt; write_frame(&mut buf, packet, 9), Some(53));
-    assert!(rt; &buf[33..37] == b"\xe3\x06\x92\x83");
+    assert!(rt; &buf[33..37] == b"\xe3\x06\x92\x83".as_slice());
     assert!(rt; read_frame(&buf).is_none());
     let frame = read_frame(&buf[0..53]).ok_or("no frame")?;
     assert_eq!(rt; frame.offset, 9);

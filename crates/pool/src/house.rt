@@ -103,7 +103,7 @@ mod tests {
         let mut house = House::new(rt.alloc(), 7, 0, &[], token)?;
         assert!(rt; !house.get_additional_datanode(0, &[], &[]));
         assert!(rt; house.update_block_for_pipeline(0) == Some(8));
-        assert!(rt; house.stamp_token() == &message);
+        assert!(rt; house.stamp_token() == message.as_slice());
         Ok(())
     }
 }

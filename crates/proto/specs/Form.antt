@@ -1,5 +1,5 @@
 -- The form of a message: the fields of a list of rules, in the order of their tags, each written shortest, and nothing else. Assumes nothing.
-use Rattle.std.specs.Prelude.{ℕ, ◌+◌, ◌-◌, ◌^◌, Bool, true, false, cond, ◌&&◌, ◌||◌, List, [], ◌∷◌, length, Some, None, Ok, Err, Option, Result, ◌==◌, nat_le, nat_lt}
+use Rattle.std.specs.Prelude.{ℕ, ◌-◌, ◌^◌, Bool, true, false, cond, ◌&&◌, ◌||◌, List, [], ◌∷◌, length, Some, None, Ok, Err, Option, Result, ◌==◌, nat_le, nat_lt}
 use Rattle.wire.specs.declared.field.Fault.{Fault}
 use Rattle.wire.specs.Fields.{WireField, varint, fixed64, part, fixed32, tag_of, encode}
 use Rattle.wire.specs.Read.{read_field}

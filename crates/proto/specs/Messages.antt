@@ -1,5 +1,5 @@
 -- The messages of datatransfer.proto and hdfs.proto that the writer sends, as their fields. Assumes nothing.
-use Rattle.std.specs.Prelude.{ℕ, Bool, cond, List, [], ◌∷◌, ◌++◌, take}
+use Rattle.std.specs.Prelude.{ℕ, List, [], ◌∷◌, take}
 use Rattle.wire.specs.Find.{part_of, number_of}
 use Rattle.wire.specs.Fields.{WireField, varint, part, encode_all}
 use Rattle.proto.specs.declared.block.ClientOperationHeader.{ClientOperationHeader}

@@ -7,7 +7,7 @@ use Rattle.std.proofs.lemmas.Slice.Eq.{bytes_eq-Decides}
 use Rattle.replace.specs.declared.settings.Key.TheVariants as key
 use Rattle.replace.specs.declared.settings.Settings.{Settings}
 use Rattle.replace.specs.declared.datanode.Policy.TheVariants.{Default}
-use Rattle.replace.specs.Names.{enable_name, policy_name, best_effort_name, key_of, is_true, policy_of}
+use Rattle.replace.specs.Names.{enable_name, policy_name, best_effort_name, is_true, policy_of}
 use Rattle.replace.specs.Listed.{Pair, or_else, last_value, read, listed, changed, put, texts}
 
 or_assoc : {A : Type 0} (x y z : Option A) → or_else (or_else x y) z ≡ or_else x (or_else y z)

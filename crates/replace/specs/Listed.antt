@@ -1,8 +1,7 @@
 -- What a list of names and values says of the three settings. Assumes nothing.
 use Rattle.std.specs.Borrow.{Bor}
-use Rattle.std.specs.Prelude.{ℕ, Bool, true, false, cond, List, [], ◌∷◌, Some, None, Option}
+use Rattle.std.specs.Prelude.{ℕ, true, false, cond, List, [], ◌∷◌, Some, None, Option}
 use Rattle.std.specs.Str.{bytes_eq}
-use Rattle.replace.specs.declared.datanode.Policy.{Policy}
 use Rattle.replace.specs.declared.datanode.Policy.TheVariants.{Disable, Default}
 use Rattle.replace.specs.declared.datanode.ReplaceDatanodeOnFailure.{ReplaceDatanodeOnFailure}
 use Rattle.replace.specs.declared.settings.Key.{Key}

@@ -1,5 +1,5 @@
 -- How long messages can be. Assumes nothing.
-use Rattle.std.proofs.Common.{ℕ, ◌+◌, ◌*◌, ◌≤◌, List, [], ◌∷◌, ◌++◌, map, length, refl, mul-le-mul_right, arith}
+use Rattle.std.proofs.Common.{ℕ, ◌*◌, ◌≤◌, [], ◌∷◌, ◌++◌, map, length, refl, mul-le-mul_right, arith}
 use Rattle.std.proofs.lemmas.List.{length-take}
 use Rattle.wire.specs.Fields.{varint, part, varint_bytes, encode_all}
 use Rattle.wire.proofs.Encoded.{join_length}

@@ -2,7 +2,6 @@
 use Rattle.std.specs.Prelude.{◌≡◌, ℕ, ◌+◌, ◌<◌, ◌≤◌, List, [], ◌∷◌, ◌++◌, map, length, drop, Some, None, Option}
 use Rattle.wire.specs.Octets.{big}
 use Rattle.wire.specs.Fields.{WireField, varint, part, varint_bytes, encode_all}
-use Rattle.proto.specs.declared.datanode.Datanode.{Datanode}
 use Rattle.request.specs.declared.parts.Construction.{Construction}
 use Rattle.request.specs.declared.parts.Storages.{Storages}
 use Rattle.request.specs.declared.transfer_block.TransferBlock.{TransferBlock}

@@ -1,6 +1,6 @@
 -- What is read of a request that sets up a pipeline. Assumes nothing.
 use Rattle.std.specs.Borrow.{Bor}
-use Rattle.std.specs.Prelude.{ℕ, ◌+◌, ◌-◌, Bool, true, false, cond, ◌&&◌, List, [], ◌∷◌, length, drop, Some, None, Ok, Err, Option, Result, ◌==◌, nat_le, slice_index}
+use Rattle.std.specs.Prelude.{ℕ, ◌-◌, cond, ◌&&◌, List, length, drop, Some, None, Ok, Err, Option, Result, ◌==◌, nat_le, slice_index}
 use Rattle.wire.specs.declared.field.DecodeError.{DecodeError}
 use Rattle.wire.specs.declared.field.Fault.{Fault}
 use Rattle.wire.specs.declared.field.Fault.TheVariants.{WireType}

@@ -1,9 +1,8 @@
 -- What was heard, as what came. Assumes nothing.
-use Rattle.std.proofs.Common.{◌≡◌, ℕ, ◌≤◌, List, ◌++◌, length, drop, Ok, Err, Result, sym, refl, ap, ◌∙◌, subst}
+use Rattle.std.proofs.Common.{◌≡◌, ℕ, List, ◌++◌, drop, Ok, Err, Result, sym, refl, ap, ◌∙◌}
 use Rattle.wire.specs.declared.field.DecodeError.{DecodeError}
 use Rattle.ack.specs.declared.ack.Verdict.{Verdict}
-use Rattle.ack.specs.Verdicts.{verdict_on}
-use Rattle.chain.specs.Acts.{Came, nothing, lost, answer, Front}
+use Rattle.chain.specs.Acts.{Came, nothing, lost, answer}
 use Rattle.sending.specs.declared.ask.Heard.{Heard}
 use Rattle.sending.specs.declared.ask.Heard.TheVariants.{Quiet, Lost, Undecodable, Judged}
 use Rattle.sending.specs.Asking.{heard_of, heard_in, answer_over, Says, Hears}

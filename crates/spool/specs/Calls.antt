@@ -1,5 +1,5 @@
 -- What each call of a spool does, as an act. Assumes nothing.
-use Rattle.std.specs.Prelude.{◌≡◌, ℕ, ◌<◌, ◌≤◌, Bool, true, false, cond, List, [], ◌∷◌, ◌++◌, length, drop, replicate, Some, None, Option}
+use Rattle.std.specs.Prelude.{◌≡◌, ℕ, ◌<◌, ◌≤◌, Bool, true, List, [], ◌∷◌, ◌++◌, length, drop, replicate, Some, None, Option}
 use Rattle.ack.specs.Written.{answer_octets}
 use Rattle.packet.specs.Frame.{Packet}
 use Rattle.packet.specs.Reading.{Reads}

@@ -1,6 +1,6 @@
 -- Each act of a spool moves what it means as a chain's must. Assumes nothing.
 use Rattle.std.specs.Prelude.{◌≡◌, ℕ, zero, suc, ◌+◌, ◌-◌, ◌^◌, ◌<◌, ◌≤◌, Bool, true, false, cond, ◌&&◌, List, [], ◌∷◌, ◌++◌, length, take, drop, replicate, Some, None, Option, ◌==◌, nat_le, nat_lt, refl}
-use Rattle.std.proofs.Common.{sym, ap, subst, ◌∙◌, zero-add, suc-add, arith}
+use Rattle.std.proofs.Common.{sym, ap, ◌∙◌, zero-add, suc-add, arith}
 use Rattle.std.proofs.lemmas.List.{length-take-le, length-drop, take-take, take-append-le, drop-append-le, drop-drop}
 use Rattle.std.proofs.lemmas.Bool.{cond-true, cond-false, eqb-true, leb-true, ltb-true, and_parts, false≢true}
 use Rattle.std.specs.Str.{bytes_eq}
@@ -14,12 +14,12 @@ use Rattle.packet.specs.Sums.{sums_of}
 use Rattle.request.specs.declared.setup.Setup.{Setup}
 use Rattle.request.specs.Setups.{setup_of}
 use Rattle.chain.specs.Acts.{Came, nothing, lost, answer}
-use Rattle.chain.specs.Meaning.{Seen, rebuilt, Rebuilds, SetsUp, with_packet, Takes, Confirms, Passes, Puts, Nexts}
+use Rattle.chain.specs.Meaning.{rebuilt, Rebuilds, SetsUp, Passes, Puts, Nexts}
 use Rattle.spool.specs.declared.pending.Pending.{Pending}
 use Rattle.spool.specs.declared.state.Spool.{Spool}
 use Rattle.spool.specs.Calls as calls
 use Rattle.spool.specs.Counts.{total, numbered}
-use Rattle.spool.specs.Spools.{View, view_of, packets_from, seen_in, sets_up, rebuilt_to, takes, with_pending, put_taken, put_after, confirms_first}
+use Rattle.spool.specs.Spools.{View, view_of, packets_from, seen_in, sets_up, rebuilt_to, takes, with_pending, confirms_first}
 use Rattle.spool.specs.Packets.{packets_push}
 
 same_bytes_true : (s t : List ℕ) → bytes_eq s t ≡ true → s ≡ t

@@ -1,9 +1,8 @@
 -- Pending packets over their bytes: one more at the end, and the first one gone. Assumes nothing.
 use Rattle.std.specs.Prelude.{◌≡◌, ℕ, ◌+◌, ◌^◌, ◌<◌, ◌≤◌, true, List, [], ◌∷◌, ◌++◌, length, take, drop, refl}
-use Rattle.std.proofs.Common.{sym, ap, ◌∙◌, add-zero, add_assoc, arith}
+use Rattle.std.proofs.Common.{ap, ◌∙◌, arith}
 use Rattle.std.proofs.lemmas.List.{length-drop, take_all, take-append-le, drop-append-le}
 use Rattle.std.proofs.lemmas.Bool.{lt-ltb, and_from, and_parts}
-use Rattle.packet.specs.Frame.{Packet}
 use Rattle.packet.specs.Sums.{sums_of}
 use Rattle.spool.specs.declared.pending.Pending.{Pending}
 use Rattle.spool.specs.Counts.{total, numbered}

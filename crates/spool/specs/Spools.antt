@@ -1,5 +1,5 @@
 -- What a spool holds, and what each call makes of it. Assumes nothing.
-use Rattle.std.specs.Prelude.{◌≡◌, ℕ, ◌+◌, ◌-◌, ◌^◌, ◌≤◌, Bool, true, false, cond, ◌&&◌, List, [], ◌∷◌, ◌++◌, length, take, drop, Some, None, vec_items, vec_len, Option, ◌==◌, nat_le, nat_lt}
+use Rattle.std.specs.Prelude.{ℕ, ◌+◌, ◌-◌, ◌^◌, Bool, true, false, cond, ◌&&◌, List, [], ◌∷◌, ◌++◌, length, take, drop, Some, None, vec_items, Option, ◌==◌, nat_le, nat_lt}
 use Rattle.std.specs.Str.{bytes_eq}
 use Rattle.packet.specs.declared.read.Frame.{Frame}
 use Rattle.packet.specs.Frame.{Packet}
@@ -8,7 +8,6 @@ use Rattle.request.specs.declared.setup.Setup.{Setup}
 use Rattle.chain.specs.Meaning.{Seen}
 use Rattle.spool.specs.declared.pending.Pending.{Pending}
 use Rattle.spool.specs.declared.state.Spool.{Spool}
-use Rattle.spool.specs.Counts.{total}
 
 -- a spool by its contents
 pub record View : Type 0 where

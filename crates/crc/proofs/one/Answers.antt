@@ -1,4 +1,4 @@
-use Rattle.std.proofs.Common.{ℕ, ap, ◌∙◌, rules}
+use Rattle.std.proofs.Common.{ℕ, ap, ◌∙◌}
 use lib.Bits.{bit_xor}
 use Rattle.crc.specs.Crc.{steps}
 use Rattle.crc.proofs.Slices.{one_read}

@@ -1,5 +1,5 @@
 use Rattle.std.proofs.Common.{◌-◌, ◌<◌, ◌∷◌, ◌++◌, map, length, drop, sym, refl, ap, ◌∙◌, arith}
-use Rattle.std.proofs.lemmas.Bool.{lt-leb, and_left, and_right}
+use Rattle.std.proofs.lemmas.Bool.{lt-leb, and_right}
 use Rattle.wire.specs.Fields.{varint, encode_all}
 use Rattle.wire.proofs.Front.{start, put}
 use Rattle.ack.specs.Written.{answer_fields, answer_octets}

@@ -1,4 +1,4 @@
-use Rattle.std.proofs.Common.{sym, ◌∙◌}
+use Rattle.std.proofs.Common.{◌∙◌}
 use Rattle.bench.proofs.Rooms.{room_on, room_off, room_all}
 use Rattle.bench.proofs.replicas.has_room.Goals as goal
 

@@ -1,4 +1,4 @@
-use Rattle.std.proofs.Common.{◌&&◌, leb, length, sym, ap, ◌∙◌}
+use Rattle.std.proofs.Common.{◌&&◌, sym, ap, ◌∙◌}
 use Rattle.std.proofs.lemmas.Bool.{le-leb, lt-leb, and_left, and_right}
 use Rattle.wire.specs.Find.{part_of}
 use Rattle.proto.specs.Form.{form_of}

@@ -1,4 +1,3 @@
-use Rattle.std.proofs.Common.{◌≡◌, ◌≤◌, length}
 use Rattle.readings.specs.Line.{table}
 use Rattle.readings.proofs.Slots.{Filled}
 use Rattle.readings.proofs.line.numbers.Given as goal

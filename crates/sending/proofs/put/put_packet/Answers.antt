@@ -1,6 +1,6 @@
-use Rattle.std.proofs.Common.{◌≡◌, ℕ, ◌-◌, true, false, sym, refl, ap, ◌∙◌, subst, arith}
+use Rattle.std.proofs.Common.{◌≡◌, ℕ, ◌-◌, true, false, sym, ◌∙◌, subst, arith}
 use Rattle.packet.specs.Frame.{summed}
-use Rattle.sending.proofs.Frames.{unfit, fit, within, front}
+use Rattle.sending.proofs.Frames.{unfit, within, front}
 use Rattle.sending.proofs.put.put_packet.Goals as goal
 
 pub returns-in_default : goal.returns-in_default

@@ -1,4 +1,4 @@
-use Rattle.std.proofs.Common.{◌-◌, sym, refl, ap, ◌∙◌, arith}
+use Rattle.std.proofs.Common.{◌-◌, refl, arith}
 use Rattle.packet.specs.Frame.{summed}
 use Rattle.sending.proofs.Frames.{unfit, fit, within, front, sends}
 use Rattle.sending.proofs.send.send_packet.Goals as goal

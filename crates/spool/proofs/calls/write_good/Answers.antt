@@ -1,4 +1,4 @@
-use Rattle.std.proofs.Common.{◌≡◌, ℕ, zero, suc, ◌+◌, ◌-◌, ◌≤◌, List, [], ◌∷◌, take, replicate, refl, ap, ◌∙◌, subst, arith}
+use Rattle.std.proofs.Common.{◌≡◌, ℕ, zero, suc, ◌-◌, ◌≤◌, ◌∷◌, take, replicate, refl, ap, ◌∙◌, subst, arith}
 use Rattle.ack.specs.Written.{answered}
 use Rattle.spool.proofs.calls.write_good.Goals as goal
 

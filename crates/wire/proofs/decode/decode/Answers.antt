@@ -1,6 +1,6 @@
-use Rattle.std.proofs.Common.{◌≡◌, Ok, Err, sym, ap, ◌∙◌}
+use Rattle.std.proofs.Common.{Err, sym, ap, ◌∙◌}
 use Rattle.std.proofs.lemmas.Result.{err_from_is_err_and}
-use Rattle.wire.specs.Read.{wire, seen}
+use Rattle.wire.specs.Read.{seen}
 use Rattle.wire.proofs.Messages.{begin, end, no_field, no_merge, more, fault_of, value_of}
 use Rattle.wire.proofs.decode.decode.Goals as goal
 

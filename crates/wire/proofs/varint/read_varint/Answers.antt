@@ -1,4 +1,4 @@
-use Rattle.std.proofs.Common.{◌≡◌, ◌+◌, ◌*◌, ◌^◌, ◌<◌, ◌⊎◌, ◌∷◌, length, get_or, drop, Ok, sym, ap, ◌∙◌, ⊎_elim, arith}
+use Rattle.std.proofs.Common.{◌≡◌, ◌+◌, ◌*◌, ◌∷◌, get_or, drop, Ok, sym, ap, ◌∙◌, arith}
 use Rattle.wire.specs.Read.{varint_from, varint_at}
 use Rattle.wire.proofs.Varints.{Turn, joins, last, goes, grows, not_tenth, over, at_byte, at_end}
 use Rattle.wire.proofs.varint.read_varint.Goals as goal

@@ -1,4 +1,4 @@
-use Rattle.std.proofs.Common.{◌≡◌, sym, ap, ◌∙◌}
+use Rattle.std.proofs.Common.{sym, ap, ◌∙◌}
 use Rattle.wire.specs.Read.{decoded}
 use Rattle.wire.proofs.Messages.{decoded_map}
 use Rattle.ack.specs.Acks.{merge_ack, no_fields, ack_of}

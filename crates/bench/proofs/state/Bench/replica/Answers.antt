@@ -1,4 +1,4 @@
-use Rattle.std.proofs.Common.{vec_items, sym, ◌∙◌, arith}
+use Rattle.std.proofs.Common.{vec_items, ◌∙◌, arith}
 use Rattle.spool.specs.Spools.{view_of}
 use Rattle.bench.specs.Mirrors.{mirrored_at}
 use Rattle.bench.proofs.state.Bench.replica.Goals as goal

@@ -1,4 +1,4 @@
-use Rattle.std.proofs.Common.{◌≡◌, ℕ, ◌+◌, ◌-◌, List, ◌++◌, map, length, take, sym, refl, ap, ◌∙◌, subst, arith, rules}
+use Rattle.std.proofs.Common.{◌+◌, ◌-◌, ◌++◌, map, length, take, sym, ap, ◌∙◌, subst, arith, rules}
 use Rattle.wire.specs.Fields.{encode_all}
 use Rattle.wire.proofs.Front.{Front, start, put, done, renamed}
 use Rattle.wire.proofs.Encoded.{left_length, rows_done, none_left, all_done, nothing}

@@ -1,4 +1,4 @@
-use Rattle.std.proofs.Common.{◌≡◌, ◌++◌, length, sym, ap, ◌∙◌, arith, rules}
+use Rattle.std.proofs.Common.{◌++◌, length, sym, ap, ◌∙◌, arith, rules}
 use Rattle.wire.proofs.Encoded.{encode_join, join_length, in_two}
 use Rattle.wire.proofs.encode.ThenMessage.encode.Goals as goal
 

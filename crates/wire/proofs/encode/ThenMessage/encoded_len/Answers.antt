@@ -1,4 +1,4 @@
-use Rattle.std.proofs.Common.{◌≡◌, sym, ap, ◌∙◌, arith, rules}
+use Rattle.std.proofs.Common.{arith, rules}
 use Rattle.wire.proofs.Encoded.{join_length}
 use Rattle.wire.proofs.encode.ThenMessage.encoded_len.Goals as goal
 
