@@ -76,7 +76,7 @@ fn a_spool(rt: HostRuntime) -> Result<(), Fail> {
     assert_eq!(rt; spool.pending(), 2);
     assert!(rt; spool.kept().is_empty());
     answers(&rt, &mut spool, 4);
-    assert!(rt; spool.kept() == b"abcdef");
+    assert!(rt; spool.kept() == b"abcdef".as_slice());
     let mut large = [0u8; 1024];
     let n = request(1, &mut large)?;
     assert!(rt; n <= 1024);
@@ -98,11 +98,11 @@ fn a_bench(rt: HostRuntime) -> Result<(), Fail> {
     assert!(rt; !put(&rt, &mut bench, 6, 2, b"ghi")?, "the memory is full");
     assert_eq!(rt; bench.replicas(), 2);
     answers(&rt, &mut bench, 8);
-    assert!(rt; bench.kept() == b"abcdef");
+    assert!(rt; bench.kept() == b"abcdef".as_slice());
     let Some(second) = bench.replica(0) else {
         return Err(Fail::new("there is no second replica"));
     };
-    assert!(rt; second == b"abcdef");
+    assert!(rt; second == b"abcdef".as_slice());
     assert!(rt; bench.replica(2).is_none());
     Ok(())
 }

@@ -1,11 +1,11 @@
 -- What a frame's places hold, so that one packet at most has it. Assumes nothing.
-use Rattle.std.proofs.Common.{◌≡◌, ℕ, zero, suc, ◌+◌, ◌-◌, ◌*◌, ◌/◌, ◌%◌, ◌^◌, ◌<◌, ◌≤◌, Bool, true, false, cond, eqb, List, [], ◌∷◌, ◌++◌, length, get_or, take, drop, Some, None, Option, sym, refl, ap, ◌∙◌, subst, pow-suc, arith}
+use Rattle.std.proofs.Common.{◌≡◌, ℕ, zero, suc, ◌+◌, ◌-◌, ◌*◌, ◌/◌, ◌^◌, ◌<◌, ◌≤◌, Bool, true, false, eqb, List, ◌++◌, length, get_or, take, drop, Some, None, sym, refl, ap, ◌∙◌, subst, pow-suc, arith}
 use Rattle.std.proofs.lemmas.Nat.{div_below, div-add-mod'}
-use Rattle.std.proofs.lemmas.List.{append_assoc, length-append, length-drop, length-take-le, take_at, drop_at, take-append-drop, take_rest, drop-drop, append_cancel_left}
+use Rattle.std.proofs.lemmas.List.{append_assoc, length-append, length-drop, length-take-le, take_at, drop_at, take-append-drop, take_rest, drop-drop}
 use Rattle.wire.specs.Fields.{varint_bytes, encode, encode_all}
 use Rattle.wire.specs.Octets.{little, from_little}
 use Rattle.packet.specs.declared.header.PacketHeader.{PacketHeader}
-use Rattle.packet.specs.Frame.{Packet, lengths, header_in, whole_in, octets_of, summed, frame_of}
+use Rattle.packet.specs.Frame.{Packet, lengths, header_in, whole_in, octets_of, summed}
 use Rattle.packet.specs.Header.{header_octets, header_of, header_length}
 use Rattle.packet.specs.Reading.{Carried, Reads, Unique, RoundTrip, header_at, front_of}
 use Rattle.packet.proofs.Frames.{lengths_long, frame_long}

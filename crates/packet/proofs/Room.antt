@@ -1,9 +1,9 @@
 -- The frame capacity holds every frame. Assumes nothing.
-use Rattle.std.proofs.Common.{◌≡◌, ℕ, ◌+◌, ◌-◌, ◌*◌, ◌/◌, ◌%◌, ◌^◌, ◌<◌, ◌≤◌, Bool, true, false, cond, ◌&&◌, ◌||◌, eqb, ltb, ◌⊎◌, List, length, sym, refl, ap, ◌∙◌, subst, ⊎_elim, mod-lt, mul-add, arith}
+use Rattle.std.proofs.Common.{◌≡◌, ℕ, ◌+◌, ◌-◌, ◌*◌, ◌/◌, ◌%◌, ◌<◌, ◌≤◌, Bool, true, false, ◌&&◌, eqb, ltb, List, length, ap, ◌∙◌, ⊎_elim, mod-lt, mul-add, arith}
 use Rattle.std.proofs.lemmas.Nat.{div-add-mod', le-div, mul-le}
-use Rattle.std.proofs.lemmas.Bool.{cond-true, cond-false, cond_both, eqb-false, eqb-true, eq-eqb, ne_eqb, ltb-false, and_cases, or_parts, cases_lt, cases_eq}
+use Rattle.std.proofs.lemmas.Bool.{cond-true, cond-false, cond_both, eqb-false, eq-eqb, ne_eqb, ltb-false, and_cases, or_parts, cases_lt, cases_eq}
 use Rattle.packet.specs.declared.size.PacketSize.{PacketSize}
-use Rattle.packet.specs.Frame.{Packet, whole_in, octets_of, fits_in}
+use Rattle.packet.specs.Frame.{Packet, fits_in}
 use Rattle.packet.specs.Header.{header_length}
 use Rattle.packet.specs.Room.{FramesFit, FirstWithin}
 use Rattle.packet.specs.Sizes.{chunk_size_refused, packet_size_refused, chunks_of, capacity_of, first_capacity_of, frame_capacity_of}

@@ -1,5 +1,5 @@
 -- What octets are the frame of a packet, and which packet that is. Assumes nothing.
-use Rattle.std.specs.Prelude.{◌≡◌, ℕ, ◌^◌, ◌<◌, Bool, List, ◌++◌, length, take, drop, Some, None, Option, ◌==◌, ◌≢◌, slice_index}
+use Rattle.std.specs.Prelude.{◌≡◌, ℕ, ◌^◌, ◌<◌, List, ◌++◌, length, take, drop, Some, None, Option, ◌==◌, ◌≢◌, slice_index}
 use Rattle.wire.specs.Octets.{from_little}
 use Rattle.packet.specs.declared.frame.WritePacket.{WritePacket}
 use Rattle.packet.specs.declared.header.PacketHeader.{PacketHeader}

@@ -1,5 +1,5 @@
 -- That the buffers suffice: every packet within its capacity is framed. Assumes nothing.
-use Rattle.std.specs.Prelude.{◌≡◌, ℕ, ◌≤◌, Bool, true, false, List, length}
+use Rattle.std.specs.Prelude.{◌≡◌, ℕ, ◌≤◌, true, false, List, length}
 use Rattle.packet.specs.Frame.{Packet, fits_in}
 use Rattle.packet.specs.Sizes.{chunk_size_refused, packet_size_refused, capacity_of, first_capacity_of, frame_capacity_of}
 use Rattle.packet.specs.Sums.{sums_of}

@@ -1,5 +1,5 @@
 -- The data of the packets, joined. Assumes nothing.
-use Rattle.std.proofs.Common.{◌≡◌, ℕ, zero, suc, ◌+◌, ◌-◌, ◌*◌, ◌/◌, ◌%◌, ◌<◌, ◌≤◌, Bool, true, false, cond, eqb, List, [], ◌∷◌, ◌++◌, length, get_or, take, drop, sym, refl, ap, ◌∙◌, subst, mul-le-mul_right, mod-lt, suc-mul, add-mul, one-mul, div-add-mod', zero-mul, div-mul-le_self, arith}
+use Rattle.std.proofs.Common.{◌≡◌, ℕ, zero, suc, ◌+◌, ◌-◌, ◌*◌, ◌/◌, ◌%◌, ◌<◌, ◌≤◌, Bool, true, false, cond, eqb, List, [], ◌++◌, length, take, drop, sym, refl, ap, ◌∙◌, subst, mul-le-mul_right, mod-lt, suc-mul, add-mul, one-mul, div-add-mod', zero-mul, div-mul-le_self, arith}
 use Rattle.std.proofs.lemmas.List.{take-append-drop, take-take, drop-take, take_all, drop_all, length-drop}
 use Rattle.std.proofs.lemmas.Bool.{cond-false, eq-eqb, ne_eqb, eqb-true}
 use Rattle.recording.specs.Cut.{packet_count, packets_joined}

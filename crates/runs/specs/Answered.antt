@@ -17,7 +17,7 @@ module _ {L N : Type 0} (sets : L → Datanode → List ℕ → ℕ → Option (
     (lists : N → Ask → Option Offer → N → Type 0) (stamps : N → ℕ → Option (ℕ × List ℕ) → N → Type 0) (updates : N → Entry → Bool → N → Type 0)
     (v : View) (store : List ℕ) (time : ℕ) (r : Result Recovered Refusal) (w : View) (t : Site L N) where
   abbrev pub in_tokened : (b : Bool) (choice : Option (ℕ × ℕ)) (chain : List Datanode) (stamp : ℕ) (octets frame : List ℕ) (s : Line L) (n : N) → Tokened sets puts transfers lists stamps updates b v store time choice chain stamp octets frame s n r w t → Option (List Datanode)
-  in_tokened true choice chain stamp octets frame s n d = if_answered d.sets-up.reply.came chain
+  in_tokened true choice chain stamp octets frame s n d = if_answered d.sets_up.reply.came chain
   in_tokened false choice chain stamp octets frame s n d = None
 
   abbrev pub in_stamped : (came : Option (ℕ × List ℕ)) (choice : Option (ℕ × ℕ)) (chain : List Datanode) (frame : List ℕ) (s : Line L) (n : N) → Stamped sets puts transfers lists stamps updates came v store time choice chain frame s n r w t → Option (List Datanode)

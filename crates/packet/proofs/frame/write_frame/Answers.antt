@@ -1,4 +1,4 @@
-use Rattle.std.proofs.Common.{◌≡◌, ◌+◌, ◌-◌, ◌^◌, ◌<◌, ◌≤◌, length, sym, ap, ◌∙◌, arith}
+use Rattle.std.proofs.Common.{◌≡◌, ◌+◌, ◌-◌, ◌^◌, ◌<◌, length, sym, arith}
 use Rattle.packet.specs.Frame.{summed, whole_in, octets_of}
 use Rattle.packet.proofs.Chunks.{sums_of_long}
 use Rattle.packet.proofs.Frames.{frame_long, fits, too_much, too_long, none_end, none_over, some_end, some_over, carried, carries}

@@ -1,4 +1,4 @@
-use Rattle.std.proofs.Common.{length, arith, rules}
+use Rattle.std.proofs.Common.{arith, rules}
 use Rattle.packet.proofs.Chunks.{begins_within, shorter_chunk}
 use Rattle.packet.proofs.sums.chunk.Goals as goal
 

@@ -1,4 +1,4 @@
-use Rattle.std.proofs.Common.{ℕ, ◌*◌, ◌^◌, cond, ltb, Some, None, Option, sym, ap, ◌∙◌}
+use Rattle.std.proofs.Common.{ℕ, ◌*◌, ◌^◌, cond, ltb, Some, None, sym, ap}
 use Rattle.packet.proofs.Chunks.{none_to_sum}
 use Rattle.packet.proofs.sums.sums_len.Goals as goal
 

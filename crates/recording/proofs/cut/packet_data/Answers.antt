@@ -1,4 +1,4 @@
-use Rattle.std.proofs.Common.{◌≡◌, ◌+◌, ◌-◌, ◌*◌, ◌≤◌, length, take, drop, sym, refl, ap, ◌∙◌, arith}
+use Rattle.std.proofs.Common.{◌*◌, length, take, drop, sym, refl, ap, arith}
 use Rattle.recording.proofs.Cuts.{starts, none_past, short}
 use Rattle.recording.proofs.cut.packet_data.Goals as goal
 
