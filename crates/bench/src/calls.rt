@@ -89,5 +89,5 @@ impl Chain for Bench {
 
     ghost answering = { λ a b came e. Meaning.answering (view_of a.lead) (view_of b.lead) came (whole_of a.lead) e };
 
-    ghost transferring = { first_of (Prim.search rules, Prim.grind (arith, Self.row.coded.inj)) };
+    ghost transferring = { Prim.search rules };
 }

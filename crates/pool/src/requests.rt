@@ -71,11 +71,11 @@ impl NamenodeProtocol for Pool {
 impl Namenode for Pool {
     ghost entry = { λ p. (pool_of p).book.entry };
 
-    ghost listing = { first_of (Prim.search rules, Prim.grind (arith, Self.row.coded.inj)) };
+    ghost listing = { Prim.search rules };
 
-    ghost stamping = { first_of (Prim.search rules, Prim.grind (arith, Self.row.coded.inj)) };
+    ghost stamping = { Prim.search rules };
 
-    ghost updating = { first_of (Prim.search rules, Prim.grind (arith, Self.row.coded.inj)) };
+    ghost updating = { Prim.search rules };
 }
 
 #[cfg(test)]

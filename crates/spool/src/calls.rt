@@ -112,5 +112,5 @@ impl Chain for Spool {
 
     ghost answering = { λ a b came e. Meaning.answering (view_of a) (view_of b) came (whole_of a) e };
 
-    ghost transferring = { first_of (Prim.search rules, Prim.grind (arith, Self.row.coded.inj)) };
+    ghost transferring = { Prim.search rules };
 }
