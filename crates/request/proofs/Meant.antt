@@ -2,7 +2,7 @@
 use Rattle.std.proofs.Common.{◌≡◌, ℕ, ◌+◌, ◌-◌, ◌^◌, ◌<◌, ◌≤◌, ◌&&◌, eqb, leb, List, [], ◌∷◌, ◌++◌, map, length, get_or, drop, Some, Ok, sym, refl, ap, ◌∙◌, arith}
 use Rattle.std.proofs.lemmas.List.{append-nil, length-append, drop_at}
 use Rattle.std.proofs.lemmas.Bool.{cond-true, le-leb, eq-eqb, and_from}
-use Rattle.std.specs.List.{AllByRecursion as All}
+use Rattle.std.specs.List.{AllByRecursion}
 use Rattle.wire.specs.Fields.{WireField, varint, part, varint_bytes, encode, encode_all}
 use Rattle.wire.specs.Laws.{Sound, AllSound, merge_all}
 use Rattle.wire.specs.Find.{part_of, number_of}
@@ -68,7 +68,7 @@ module _ (w : WriteBlock) (fit : Widths w) where
   checksum_sound : AllSound (checksum_fields w.chunk_size)
   checksum_sound = ((refl, omega arith), ((refl, omega (arith, fit.chunk)), tt))
 
-  types_sound : (ds : List Datanode) → All (λ (d : Datanode). d.storage_type < 2 ^ 8) ds → AllSound (map (λ (d : Datanode). varint 12 d.storage_type) ds)
+  types_sound : (ds : List Datanode) → AllByRecursion (λ (d : Datanode). d.storage_type < 2 ^ 8) ds → AllSound (map (λ (d : Datanode). varint 12 d.storage_type) ds)
   types_sound [] h = tt
   types_sound (d ∷ ds) h = ((refl, omega (arith, h.0)), types_sound ds h.1)
 

@@ -1,6 +1,6 @@
 -- A request that sets up a pipeline is read as it was meant. Assumes nothing.
 use Rattle.std.specs.Prelude.{◌≡◌, ◌+◌, ◌^◌, ◌<◌, length, Some}
-use Rattle.std.specs.List.{AllByRecursion as All}
+use Rattle.std.specs.List.{AllByRecursion}
 use Rattle.wire.specs.Fields.{encode_all}
 use Rattle.proto.specs.declared.datanode.Datanode.{Datanode}
 use Rattle.request.specs.declared.setup.Setup.{Setup}
@@ -32,7 +32,7 @@ pub record Widths (w : WriteBlock) : Type 0 where
   pub latest : w.latest_stamp < 2 ^ 64
   pub chunk : w.chunk_size < 2 ^ 32
   pub first : w.first.now.storage_type < 2 ^ 8
-  pub others : All (λ (d : Datanode). d.storage_type < 2 ^ 8) w.targets.now
+  pub others : AllByRecursion (λ (d : Datanode). d.storage_type < 2 ^ 8) w.targets.now
 
 -- every request, as it is sent with code 80, is read as what it asks for
 abbrev pub RequestsReadBack : Type 0

@@ -1,6 +1,6 @@
 -- Numbers as octets, in the two orders of the formats. Assumes nothing.
 use Rattle.std.specs.Prelude.{ℕ, zero, suc, ◌+◌, ◌*◌, ◌/◌, ◌%◌, ◌<◌, List, [], ◌∷◌, ◌++◌}
-use Rattle.std.specs.List.{AllByRecursion as All}
+use Rattle.std.specs.List.{AllByRecursion}
 
 -- the n lowest octets of a number, the lowest first
 abbrev pub little : ℕ → ℕ → List ℕ
@@ -19,4 +19,4 @@ from_little (b ∷ bs) = b + 256 * from_little bs
 
 -- numbers that are octets
 abbrev pub AllOctets : List ℕ → Type 0
-AllOctets bs = All (λ b. b < 256) bs
+AllOctets bs = AllByRecursion (λ b. b < 256) bs
