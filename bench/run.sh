@@ -3,7 +3,8 @@
 set -e
 cd "$(dirname "$0")/.."
 mkdir -p target
-rt staticlib speed >target/speed.log 2>&1 || { cat target/speed.log; exit 1; }
+(cd crates/speed && rt lib) >target/speed.log 2>&1 || { cat target/speed.log; exit 1; }
+kit=$(dirname "$(rt doc)")/c
 rustc --edition 2024 -C opt-level=3 bench/main.rs -o target/bench \
-    -L target/staticlib -l static=speed -L "$(dirname "$(dirname "$(rt doc)")")/lib" -l static=rattle_c
+    -L crates/speed/out -l static=speed -L "$kit" -l static=os_c -l static=libc_c
 exec target/bench
