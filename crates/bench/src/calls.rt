@@ -4,7 +4,7 @@ ghost use Rattle.spool.specs.Spools.{view_of, seen_in};
 ghost use Rattle.bench.specs.Acts.{PutsOrFull};
 ghost use Rattle.spool.specs.Meaning.{whole_of};
 ghost use Rattle.spool.specs.Meaning;
-ghost use Rattle.std.proofs.Common.{⊎_elim, rules, arith};
+ghost use Rattle.std.proofs.Common.{⊎_elim, rules};
 ghost use Rattle.bench.specs.Mirrors.{lost_put};
 
 use crate::replicas::{append_all, copies_of, has_room};

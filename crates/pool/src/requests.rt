@@ -2,7 +2,7 @@
 ghost use Rattle.std.specs.Prelude.{◌≡◌, Some};
 ghost use Rattle.namenode.specs.Entries.{row_of};
 ghost use Rattle.pool.specs.Pools.{pool_of, row_for, offer_of, Lists, Stamps, Updates};
-ghost use Rattle.std.proofs.Common.{rules, arith};
+ghost use Rattle.std.proofs.Common.{rules};
 
 use crate::pool::Pool;
 use namenode::meaning::Namenode;

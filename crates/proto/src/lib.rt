@@ -5,6 +5,5 @@ pub mod block;
 pub mod datanode;
 pub mod fixed;
 pub mod form;
-pub mod node;
 mod rules;
 pub mod token;

@@ -7,7 +7,7 @@ use crate::fixed::Fixed;
 use crate::form::conforms;
 use crate::rules::TOKEN;
 
-/// A `TokenProto` in form, of at most 1,024 octets.
+/// A `TokenProto` in form, of at most 1,024 octets, or none.
 #[derive(Clone, Copy)]
 pub struct Token {
     message: Fixed<1024>,

@@ -7,7 +7,7 @@ ghost use Rattle.spool.specs.Spools.{view_of, seen_in, sets_up};
 ghost use Rattle.spool.specs.Calls.{Sets, Puts, Nexts, Transfers, responded};
 ghost use Rattle.spool.specs.Meaning.{whole_of};
 ghost use Rattle.spool.specs.Meaning;
-ghost use Rattle.std.proofs.Common.{rules, arith};
+ghost use Rattle.std.proofs.Common.{rules};
 
 use crate::state::Spool;
 use ack::write::write_ack;

@@ -3,7 +3,7 @@ use Rattle.std.proofs.lemmas.Bool.{le-leb, lt-leb, and_left, and_right}
 use Rattle.wire.specs.Find.{part_of}
 use Rattle.proto.specs.Form.{form_of}
 use Rattle.proto.specs.Rules.{is_datanode, datanode_info, datanode_id}
-use Rattle.proto.proofs.node.is_datanode.Goals as goal
+use Rattle.proto.proofs.datanode.is_datanode.Goals as goal
 
 pub returns-then-info-gt256 : goal.returns-then-info-gt256
 unfolding is_datanode
