@@ -1,5 +1,5 @@
 -- What has happened to a block since it was opened, as its user and its pipeline saw it. Assumes nothing.
-use Rattle.std.specs.Prelude.{◌≡◌, ℕ, Bool, true, false, cond, List, [], ◌∷◌, ◌++◌, length, take, Some, None, Ok, Err, Option, Result, ◌==◌}
+use Rattle.std.specs.Prelude.{ℕ, cond, List, [], ◌∷◌, ◌++◌, length, take, Some, None, Ok, Err, Option, Result, ◌==◌}
 use Rattle.packet.specs.Frame.{Packet}
 use Rattle.proto.specs.declared.datanode.Datanode.{Datanode}
 use Rattle.writer.specs.declared.heed.Heeded.{Heeded}

@@ -1,5 +1,5 @@
 -- Runs: any calls on an open writer, in any order, each on what the one before left. A step is nothing but the contract of its call. Assumes nothing.
-use Rattle.std.specs.Prelude.{◌≡◌, ℕ, Bool, List, length, Option, Result, ◌≢◌}
+use Rattle.std.specs.Prelude.{ℕ, Bool, List, length, Option, Result, ◌≢◌}
 use Rattle.proto.specs.declared.datanode.Datanode.{Datanode}
 use Rattle.chain.specs.Acts.{Came}
 use Rattle.chain.specs.Meaning.{Seen}
@@ -16,9 +16,9 @@ use Rattle.writer.specs.Admits.{refusal_for, lens_of}
 use Rattle.writer.specs.Beating.{Beats}
 use Rattle.writer.specs.Finishing.{finish_refusal, Finishes}
 use Rattle.writer.specs.Heeding.{Heeds}
-use Rattle.writer.specs.Recovering.{Site, Recovers}
+use Rattle.writer.specs.Recovering.{Recovers}
 use Rattle.writer.specs.Views.{view_of}
-use Rattle.writer.specs.Writing.{Place, Wrote}
+use Rattle.writer.specs.Writing.{Wrote}
 use Rattle.runs.specs.History.{History, wrote, heard, rebuilt}
 use Rattle.runs.specs.Answered.{set_in}
 

@@ -1,5 +1,5 @@
 -- What is known of a call that is not refused. Assumes nothing.
-use Rattle.std.proofs.Common.{◌≡◌, ℕ, ◌+◌, ◌<◌, ◌≤◌, Bool, true, false, cond, ◌&&◌, eqb, ltb, leb, Some, None, Option, sym, refl, ap, ◌∙◌, subst, arith}
+use Rattle.std.proofs.Common.{◌≡◌, ℕ, ◌+◌, ◌<◌, ◌≤◌, Bool, true, false, cond, ◌&&◌, eqb, ltb, leb, Some, None, Option, refl, arith}
 use Rattle.std.proofs.lemmas.Bool.{eqb-true, leb-true, ltb-true, and_parts}
 use Rattle.writer.specs.declared.admit.Call.{Call}
 use Rattle.writer.specs.declared.admit.Call.TheVariants as call
@@ -11,7 +11,7 @@ use Rattle.writer.specs.declared.state.kind.State.{State}
 use Rattle.writer.specs.declared.state.kind.State.TheVariants.{Streaming, Finishing, Broken, Complete, Closed}
 use Rattle.writer.specs.declared.terms.Terms.{Terms}
 use Rattle.writer.specs.Sizes.{frame_room}
-use Rattle.writer.specs.States.{listens, ended}
+use Rattle.writer.specs.States.{listens}
 use Rattle.writer.specs.Views.{View}
 use Rattle.writer.specs.Finishing.{closing_packets, finish_refusal}
 use Rattle.writer.specs.Admits.{by_state, by_room, or_else, refusal_for}

@@ -1,5 +1,5 @@
 -- The rows of an opening's three lists. Assumes nothing.
-use Rattle.std.proofs.Common.{◌≡◌, ℕ, zero, suc, ◌<◌, ◌≤◌, List, [], ◌∷◌, map, length, get_or, replicate, vec_items, vec_len, sym, refl, ap, ◌∙◌, subst, not-suc-le-zero, arith, Bor}
+use Rattle.std.proofs.Common.{◌≡◌, ℕ, zero, suc, ◌<◌, ◌≤◌, List, [], ◌∷◌, map, length, get_or, replicate, sym, refl, ap, ◌∙◌, not-suc-le-zero, arith, Bor}
 use Rattle.proto.specs.declared.datanode.Datanode.{Datanode}
 use Rattle.pipeline.specs.Offers.{node_row}
 use Rattle.namenode.specs.Entries.{Row}

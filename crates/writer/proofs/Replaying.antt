@@ -1,7 +1,7 @@
 -- A replay, packet by packet. Assumes nothing.
-use Rattle.std.proofs.Common.{◌≡◌, ℕ, zero, suc, ◌+◌, ◌-◌, ◌<◌, ◌≤◌, Bool, true, false, List, [], ◌∷◌, length, Some, None, Option, sym, refl, ap, ◌∙◌, subst, not-suc-le-zero, add-zero, zero-add, arith}
+use Rattle.std.proofs.Common.{◌≡◌, ℕ, zero, suc, ◌+◌, ◌-◌, ◌<◌, ◌≤◌, Bool, true, false, List, ◌∷◌, Some, None, Option, sym, refl, ap, ◌∙◌, subst, not-suc-le-zero, add-zero, zero-add, arith}
 use Rattle.packet.specs.Frame.{Packet, octets_of, over}
-use Rattle.held.specs.Slots.{size_at, slot_of, packet_of, last_at, packets, total}
+use Rattle.held.specs.Slots.{size_at, slot_of, packet_of, last_at, packets}
 use Rattle.held.proofs.Packets.{packets_first, packets_none}
 use Rattle.writer.specs.Replaying.{Replays, all, again, ends}
 

@@ -1,9 +1,9 @@
 -- Packets fit their slots, and slots the store. Assumes nothing.
-use Rattle.std.proofs.Common.{◌≡◌, ℕ, ◌+◌, ◌*◌, ◌%◌, ◌<◌, ◌≤◌, true, false, cond, eqb, length, get_or, vec_items, vec_len, sym, refl, ap, ◌∙◌, subst, arith}
+use Rattle.std.proofs.Common.{ℕ, ◌+◌, ◌*◌, ◌%◌, ◌<◌, ◌≤◌, eqb, length, vec_items, arith}
 use Rattle.std.proofs.lemmas.Bool.{cond_both}
 use Rattle.packet.specs.Sizes.{first_capacity_of}
-use Rattle.packet.proofs.Room.{size_first, size_first_some, size_some, size_most}
-use Rattle.held.specs.Slots.{sizes_of, total}
+use Rattle.packet.proofs.Room.{size_first, size_first_some, size_some}
+use Rattle.held.specs.Slots.{sizes_of}
 use Rattle.held.proofs.Packets.{slot_within}
 use Rattle.held.proofs.Records.{sizes_long}
 use Rattle.writer.specs.declared.state.Writer.{Writer}

@@ -1,5 +1,5 @@
 -- Steps of a recovery put together. Assumes nothing.
-use Rattle.std.proofs.Common.{◌≡◌, ℕ, List, Option, Result, sym, refl, ap, ◌∙◌, subst}
+use Rattle.std.proofs.Common.{◌≡◌, ℕ, List, Option, Result, subst}
 use Rattle.proto.specs.declared.datanode.Datanode.{Datanode}
 use Rattle.proto.specs.declared.token.Token.{Token}
 use Rattle.request.specs.declared.stage.Stage.TheVariants.{SetupStreamingRecovery}

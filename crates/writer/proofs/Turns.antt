@@ -1,11 +1,11 @@
 -- What a turn of a write needs, and how turns are joined. Assumes nothing.
-use Rattle.std.proofs.Common.{◌≡◌, ℕ, ◌+◌, ◌-◌, ◌<◌, ◌≤◌, Bool, true, false, cond, ltb, leb, List, [], ◌∷◌, ◌++◌, length, take, drop, sym, refl, ap, ◌∙◌, subst, add-zero, zero-add, arith}
+use Rattle.std.proofs.Common.{◌≡◌, ℕ, ◌+◌, ◌-◌, ◌<◌, ◌≤◌, Bool, true, false, cond, ltb, List, length, take, drop, sym, refl, subst, add-zero, zero-add, arith}
 use Rattle.std.proofs.lemmas.List.{drop-drop, take_rest}
-use Rattle.std.proofs.lemmas.Bool.{leb-true, leb-false, ltb-true}
+use Rattle.std.proofs.lemmas.Bool.{leb-true, ltb-true}
 use Rattle.writer.specs.Sizes.{room_at}
 use Rattle.packet.specs.Frame.{octets_of}
 use Rattle.writer.specs.Views.{View, next_of, outgoing}
-use Rattle.writer.specs.Writing.{Place, amount, full, Turn, hand, pour, stop, turn_of, poured, handed_over, Writes, stops, pours, hands, loses}
+use Rattle.writer.specs.Writing.{Place, amount, full, hand, pour, stop, turn_of, poured, handed_over, Writes, stops, pours, hands, loses}
 
 private_pour : (b c : Bool) (d : Bool) → cond b (cond c hand stop) (cond d pour stop) ≡ pour → (b ≡ false) × (d ≡ true)
 private_pour true true d e = absurd (let z : ◌≡◌ {A = ℕ} 0 1 = cc in omega arith)

@@ -1,5 +1,5 @@
 -- Which calls are refused before anything is done, and by what. Assumes nothing.
-use Rattle.std.specs.Prelude.{ℕ, ◌+◌, Bool, true, false, cond, ◌&&◌, List, length, Some, None, Option, ◌==◌, nat_le}
+use Rattle.std.specs.Prelude.{ℕ, cond, ◌&&◌, List, length, Some, None, Option, ◌==◌, nat_le}
 use Rattle.writer.specs.declared.admit.Call.{Call}
 use Rattle.writer.specs.declared.admit.Call.TheVariants as call
 use Rattle.writer.specs.declared.admit.Lens.{Lens}

@@ -1,5 +1,5 @@
 -- The datanodes that a cause holds to have failed. Assumes nothing.
-use Rattle.std.specs.Prelude.{ℕ, true, false, [], ◌∷◌}
+use Rattle.std.specs.Prelude.{true, false, [], ◌∷◌}
 use Rattle.ack.specs.declared.tally.FailedNodes.{FailedNodes}
 use Rattle.writer.specs.declared.cause.Cause.{Cause}
 use Rattle.writer.specs.declared.cause.Cause.TheVariants.{Put, Link, Replies, Decoding}

@@ -1,7 +1,6 @@
 -- The record that a complete block is closed with. Assumes nothing.
-use Rattle.std.specs.Prelude.{ℕ, Ok, Err, Result}
+use Rattle.std.specs.Prelude.{Ok, Err, Result}
 use Rattle.proto.specs.declared.block.ExtendedBlock.{ExtendedBlock}
-use Rattle.writer.specs.declared.cause.Cause.{Cause}
 use Rattle.writer.specs.declared.refusal.Refusal.{Refusal}
 use Rattle.writer.specs.declared.refusal.Refusal.TheVariants as refusal
 use Rattle.writer.specs.declared.state.kind.State.{State}

@@ -1,13 +1,12 @@
 -- What a writer makes of an answer: its state and what was heard decide together. Assumes nothing.
-use Rattle.std.specs.Prelude.{◌≡◌, ℕ, Bool, true, false, cond, ◌&&◌, List, Some, None, Ok, Err, Option, Result, ◌==◌, nat_lt}
+use Rattle.std.specs.Prelude.{◌≡◌, ℕ, Bool, cond, ◌&&◌, List, Some, None, Ok, Err, Option, Result, ◌==◌, nat_lt}
 use Rattle.ack.specs.declared.ack.Verdict.{Verdict}
 use Rattle.ack.specs.declared.ack.Verdict.TheVariants as verdict
 use Rattle.chain.specs.Acts.{Came}
 use Rattle.sending.specs.declared.ask.Heard.{Heard}
 use Rattle.sending.specs.declared.ask.Heard.TheVariants as heard
 use Rattle.sending.specs.Asking.{heard_in, answer_over}
-use Rattle.writer.specs.declared.cause.Cause.{Cause}
-use Rattle.writer.specs.declared.cause.Cause.TheVariants.{Put, Link, Replies, Decoding}
+use Rattle.writer.specs.declared.cause.Cause.TheVariants.{Link, Replies, Decoding}
 use Rattle.writer.specs.declared.heed.Decision.{Decision}
 use Rattle.writer.specs.declared.heed.Decision.TheVariants as decision
 use Rattle.writer.specs.declared.heed.Heeded.{Heeded}

@@ -1,6 +1,6 @@
 -- A block opened: what is refused, what the pipeline is set up with, and the writer that comes of it. Assumes nothing.
 use Rattle.std.specs.Borrow.{Bor}
-use Rattle.std.specs.Prelude.{◌≡◌, ℕ, ◌*◌, ◌/◌, ◌^◌, min, Bool, true, false, cond, ◌&&◌, ◌||◌, List, [], ◌∷◌, length, Some, None, Ok, Err, Option, Result, ◌==◌, nat_le, nat_lt}
+use Rattle.std.specs.Prelude.{◌≡◌, ℕ, ◌*◌, ◌/◌, ◌^◌, min, Bool, cond, ◌&&◌, ◌||◌, List, [], ◌∷◌, length, Some, None, Ok, Err, Option, Result, ◌==◌, nat_le, nat_lt}
 use Rattle.packet.specs.declared.size.settings.SizeError.{SizeError}
 use Rattle.packet.specs.declared.size.settings.SizeError.TheVariants as error
 use Rattle.packet.specs.Accepted.{settings_of}

@@ -1,5 +1,5 @@
 -- A broken pipeline rebuilt, stage by stage. What each stage came to decides whether the next one follows. Assumes nothing.
-use Rattle.std.specs.Prelude.{◌≡◌, ℕ, ◌≤◌, Bool, true, false, cond, List, [], ◌∷◌, length, Some, None, Ok, Err, Option, Result, ◌==◌, nat_le}
+use Rattle.std.specs.Prelude.{◌≡◌, ℕ, ◌≤◌, Bool, true, false, cond, List, length, Some, None, Ok, Err, Option, Result, ◌==◌, nat_le}
 use Rattle.ack.specs.declared.tally.FailedNodes.{FailedNodes}
 use Rattle.proto.specs.declared.datanode.Datanode.{Datanode}
 use Rattle.proto.specs.declared.token.Token.{Token}
@@ -15,7 +15,6 @@ use Rattle.pipeline.specs.declared.set_up.Setting.{Setting}
 use Rattle.pipeline.specs.Adding.{Line, Added, Adds}
 use Rattle.pipeline.specs.SetUps.{SetsUp}
 use Rattle.pipeline.specs.Survivors.{survivors, failed_of}
-use Rattle.writer.specs.declared.cause.Cause.{Cause}
 use Rattle.writer.specs.declared.cause.Cause.TheVariants.{Put}
 use Rattle.writer.specs.declared.recover.Recovered.{Recovered}
 use Rattle.writer.specs.declared.refusal.Refusal.{Refusal}

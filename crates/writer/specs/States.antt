@@ -1,6 +1,5 @@
 -- What a state says. Assumes nothing.
 use Rattle.std.specs.Prelude.{ℕ, Bool, true, false, cond}
-use Rattle.writer.specs.declared.cause.Cause.{Cause}
 use Rattle.writer.specs.declared.state.kind.State.{State}
 use Rattle.writer.specs.declared.state.kind.State.TheVariants.{Streaming, Finishing, Broken, Complete, Closed}
 

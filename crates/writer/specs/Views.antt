@@ -1,16 +1,15 @@
 -- A writer by its contents, and what a step makes of it. Assumes nothing.
-use Rattle.std.specs.Prelude.{ℕ, ◌+◌, ◌-◌, ◌*◌, ◌%◌, min, Bool, true, false, cond, List, [], ◌∷◌, ◌++◌, length, vec_items, slice_set}
-use borrow.Rule.Slice.PartMut.{put_mid}
+use Rattle.std.specs.Prelude.{ℕ, ◌+◌, ◌-◌, ◌*◌, ◌%◌, List, vec_items, slice_set}
 use Rattle.packet.specs.Frame.{Packet}
 use Rattle.proto.specs.declared.datanode.Datanode.{Datanode}
 use Rattle.proto.specs.declared.token.Token.{Token}
 use Rattle.held.specs.Slots.{sizes_of, slot_of, packet_of, packets, total}
 use Rattle.writer.specs.declared.cause.Cause.{Cause}
 use Rattle.writer.specs.declared.state.kind.State.{State}
-use Rattle.writer.specs.declared.state.kind.State.TheVariants.{Streaming, Finishing, Broken, Complete, Closed}
+use Rattle.writer.specs.declared.state.kind.State.TheVariants.{Broken}
 use Rattle.writer.specs.declared.state.Writer.{Writer}
 use Rattle.writer.specs.declared.terms.Terms.{Terms}
-use Rattle.writer.specs.Sizes.{capacity, room_at}
+use Rattle.writer.specs.Sizes.{capacity}
 use Rattle.writer.specs.States.{ended}
 
 -- what was settled at the opening; the state; the block's stamp and token; how many bytes it has; the number of the first held packet and how

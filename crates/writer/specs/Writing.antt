@@ -1,7 +1,7 @@
 -- What a write does: bytes come into the packet being filled, and full packets go out. Assumes nothing.
-use Rattle.std.specs.Prelude.{◌≡◌, ℕ, ◌+◌, ◌-◌, min, Bool, true, false, cond, List, [], ◌∷◌, ◌++◌, length, take, drop, Some, None, Ok, Err, Option, Result, nat_le, nat_lt}
+use Rattle.std.specs.Prelude.{◌≡◌, ℕ, ◌+◌, ◌-◌, min, Bool, true, false, cond, List, length, take, drop, Some, None, Ok, Err, Option, Result, nat_le, nat_lt}
 use borrow.Rule.Slice.PartMut.{put_mid}
-use Rattle.packet.specs.Frame.{Packet, octets_of, over}
+use Rattle.packet.specs.Frame.{octets_of, over}
 use Rattle.writer.specs.declared.cause.Cause.TheVariants.{Put}
 use Rattle.writer.specs.declared.refusal.Refusal.{Refusal}
 use Rattle.writer.specs.declared.write.Step.{Step}

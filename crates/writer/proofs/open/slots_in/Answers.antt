@@ -1,4 +1,4 @@
-use Rattle.std.proofs.Common.{◌≡◌, ◌/◌, min, arith, rules}
+use Rattle.std.proofs.Common.{◌≡◌, ◌/◌, min, rules}
 use Rattle.writer.proofs.Openings.{slots_bound}
 use Rattle.writer.proofs.open.slots_in.Goals as goal
 

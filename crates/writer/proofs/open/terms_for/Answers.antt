@@ -1,4 +1,4 @@
-use Rattle.std.proofs.Common.{◌≡◌, ℕ, ◌*◌, ◌<◌, ◌≤◌, sym, ap, ◌∙◌, subst, arith}
+use Rattle.std.proofs.Common.{◌≡◌, ℕ, ap, ◌∙◌, arith}
 use Rattle.packet.specs.Sizes.{capacity_of}
 use Rattle.packet.proofs.Room.{size_some}
 use Rattle.writer.specs.Opening.{capacity_in}

@@ -1,5 +1,4 @@
-use Rattle.std.proofs.Common.{◌≡◌, ℕ, List, [], get_or, sym, refl, ap, ◌∙◌, Bor}
-use Rattle.namenode.specs.Entries.{Row}
+use Rattle.std.proofs.Common.{ℕ, List, [], get_or, ap, Bor}
 use Rattle.writer.proofs.Listing.{row_at_lem}
 use Rattle.writer.proofs.opening.Opening.row.Goals as goal
 

@@ -1,6 +1,6 @@
-use Rattle.std.proofs.Common.{◌≡◌, ℕ, ◌+◌, ◌-◌, ◌<◌, ◌≤◌, Bool, true, false, List, length, vec_items, sym, refl, ap, ◌∙◌, subst, arith}
+use Rattle.std.proofs.Common.{◌≡◌, ℕ, ◌+◌, ◌-◌, Bool, true, false, List, vec_items, sym, refl, ap, ◌∙◌, subst, arith}
 use Rattle.packet.specs.Frame.{octets_of, over}
-use Rattle.held.specs.Slots.{sizes_of, size_at, slot_of, packet_of, last_at, total, packets}
+use Rattle.held.specs.Slots.{sizes_of, size_at, slot_of, packet_of, last_at, packets}
 use Rattle.held.proofs.Packets.{total_more, total_le}
 use Rattle.writer.specs.Sizes.{capacity}
 use Rattle.writer.specs.States.{ended}

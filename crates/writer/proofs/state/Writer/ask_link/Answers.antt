@@ -1,4 +1,4 @@
-use Rattle.std.proofs.Common.{◌≡◌, sym, refl, ap, ◌∙◌, subst}
+use Rattle.std.proofs.Common.{ap, ◌∙◌}
 use Rattle.sending.specs.declared.ask.Heard.{Heard}
 use Rattle.sending.proofs.Coming.{comes}
 use Rattle.writer.specs.Views.{view_of}

@@ -1,4 +1,4 @@
-use Rattle.std.proofs.Common.{◌≡◌, Err, vec_items, sym, refl, ap, ◌∙◌, subst}
+use Rattle.std.proofs.Common.{Err, vec_items, refl, ap}
 use Rattle.writer.specs.Views.{view_of}
 use Rattle.writer.proofs.Building.{built, unbuilt}
 use Rattle.writer.proofs.state.Writer.build.Goals as goal

@@ -1,7 +1,6 @@
-use Rattle.std.proofs.Common.{◌≡◌, Ok, Err, vec_items, sym, refl, ap, ◌∙◌, subst}
+use Rattle.std.proofs.Common.{Ok, Err, vec_items, refl, ap, ◌∙◌, subst}
 use Rattle.writer.specs.declared.state.kind.State.TheVariants.{Closed}
-use Rattle.writer.specs.declared.refusal.Refusal.TheVariants as refusal
-use Rattle.writer.specs.Recovering.{Site, AsksStamp}
+use Rattle.writer.specs.Recovering.{AsksStamp}
 use Rattle.writer.specs.Views.{View, view_of, with_state}
 use Rattle.writer.proofs.state.Writer.choose_and_rebuild.Goals as goal
 

@@ -1,5 +1,5 @@
-use Rattle.std.proofs.Common.{◌≡◌, ℕ, ◌+◌, ◌-◌, ◌*◌, ◌%◌, ◌<◌, ◌≤◌, vec_items, sym, refl, ap, ◌∙◌, subst, arith}
-use Rattle.held.specs.Slots.{sizes_of, total, size_at}
+use Rattle.std.proofs.Common.{◌≡◌, ℕ, ◌+◌, ◌-◌, ◌≤◌, vec_items, subst, arith}
+use Rattle.held.specs.Slots.{sizes_of}
 use Rattle.held.proofs.Packets.{total_first}
 use Rattle.writer.specs.Sizes.{room_at}
 use Rattle.writer.proofs.state.Writer.drop_first.Goals as goal

@@ -1,4 +1,4 @@
-use Rattle.std.proofs.Common.{◌≡◌, sym, refl, ap, ◌∙◌}
+use Rattle.std.proofs.Common.{sym}
 use Rattle.writer.specs.declared.admit.Call.TheVariants as call
 use Rattle.writer.specs.Views.{view_of}
 use Rattle.writer.specs.Admits.{lens_of}

@@ -1,4 +1,4 @@
-use Rattle.std.proofs.Common.{◌≡◌, ℕ, ◌+◌, ◌*◌, ◌%◌, ◌<◌, ◌≤◌, List, length, get_or, vec_items, sym, refl, ap, ◌∙◌, subst, arith}
+use Rattle.std.proofs.Common.{◌≡◌, ℕ, ◌+◌, ◌%◌, ◌≤◌, List, get_or, vec_items, sym, refl, ap, ◌∙◌, subst, arith}
 use Rattle.held.specs.Slots.{sizes_of, total}
 use Rattle.held.proofs.Apart.{handed_total, set_small}
 use Rattle.writer.specs.Sizes.{capacity}

@@ -1,4 +1,4 @@
-use Rattle.std.proofs.Common.{◌≡◌, ℕ, ◌≤◌, true, false, length, drop, sym, refl, ap, ◌∙◌, subst, arith, length-take}
+use Rattle.std.proofs.Common.{◌≡◌, ℕ, ◌≤◌, true, false, length, drop, sym, refl, ap, subst, arith, length-take}
 use Rattle.packet.specs.declared.frame.WritePacket.{WritePacket}
 use Rattle.packet.specs.Frame.{fits_in, summed}
 use Rattle.packet.proofs.Room.{size_fits}

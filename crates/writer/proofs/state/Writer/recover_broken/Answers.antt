@@ -1,10 +1,9 @@
-use Rattle.std.proofs.Common.{◌≡◌, ℕ, ◌≤◌, List, length, None, vec_items, sym, refl, ap, ◌∙◌, subst, arith}
-use Rattle.writer.specs.declared.state.kind.State.{State}
+use Rattle.std.proofs.Common.{length, vec_items, sym, ap, ◌∙◌, subst, arith}
 use Rattle.writer.specs.declared.terms.Terms.{Terms}
 use Rattle.writer.specs.Recovering.{left_of, gone_of, failed_on}
 use Rattle.writer.specs.Sizes.{frame_room}
 use Rattle.writer.specs.States.{IsBrokenState}
-use Rattle.writer.specs.Views.{View, view_of}
+use Rattle.writer.specs.Views.{View}
 use Rattle.writer.proofs.Stamping.{survivors_few}
 use Rattle.writer.proofs.state.Writer.recover_broken.Goals as goal
 

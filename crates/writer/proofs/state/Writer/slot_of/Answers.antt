@@ -1,4 +1,4 @@
-use Rattle.std.proofs.Common.{◌≡◌, ℕ, ◌+◌, ◌*◌, ◌%◌, ◌<◌, ◌≤◌, sym, refl, ap, ◌∙◌, subst}
+use Rattle.std.proofs.Common.{ℕ, ◌+◌, ◌*◌, ◌%◌, ◌≤◌, sym, ap, subst}
 use Rattle.writer.specs.Sizes.{capacity}
 use Rattle.writer.proofs.Rooms.{slot_ends}
 use Rattle.writer.proofs.state.Writer.slot_of.Goals as goal

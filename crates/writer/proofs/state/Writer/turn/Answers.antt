@@ -1,4 +1,4 @@
-use Rattle.std.proofs.Common.{◌≡◌, ℕ, ◌+◌, ◌<◌, ◌≤◌, cond, sym, refl, ap, ◌∙◌, arith, rules}
+use Rattle.std.proofs.Common.{◌≡◌, ◌+◌, ◌<◌, cond, sym, ap, ◌∙◌, arith}
 use Rattle.writer.specs.declared.state.kind.State.{State}
 use Rattle.writer.specs.States.{ended, last_ones}
 use Rattle.writer.proofs.Rooms.{room_some}

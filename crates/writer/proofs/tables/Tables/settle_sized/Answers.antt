@@ -1,7 +1,5 @@
-use Rattle.std.proofs.Common.{◌≡◌, ◌≤◌, length, None, vec_items, sym, refl, ap, ◌∙◌, arith, rules}
-use Rattle.pipeline.specs.Offers.{node_row}
-use Rattle.writer.specs.Opening.{by_length, by_count, by_form, by_buffers, rows_in}
-use Rattle.writer.specs.Settling.{later_refusal}
+use Rattle.std.proofs.Common.{◌≡◌, length, None, vec_items, ap, arith, rules}
+use Rattle.writer.specs.Opening.{by_length, by_count, by_buffers}
 use Rattle.writer.proofs.Listing.{rows_long, map_long}
 use Rattle.writer.proofs.Openings.{counts_fit, later_none}
 use Rattle.writer.proofs.tables.Tables.settle_sized.Goals as goal
