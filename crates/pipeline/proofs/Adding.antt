@@ -7,13 +7,11 @@ use Rattle.proto.specs.declared.block.ExtendedBlock.{ExtendedBlock}
 use Rattle.proto.specs.declared.datanode.Datanode.{Datanode}
 use Rattle.proto.specs.declared.fixed.Fixed.{Fixed}
 use Rattle.replace.specs.declared.choice.NoChoice.{NoChoice}
-use Rattle.replace.specs.declared.choice.NoChoice.TheVariants.{NewNode, Source}
 use Rattle.replace.specs.Choice.{choice_of}
 use Rattle.namenode.specs.Entries.{Ask, Offer}
-use Rattle.pipeline.specs.declared.reply.Reply.{Reply}
-use Rattle.pipeline.specs.declared.reply.Reply.TheVariants.{Good, Lost, Undecodable, Status}
 use Rattle.pipeline.specs.Offers.{node_row, Rows, in_form}
-use Rattle.pipeline.specs.Adding.{Line, Added, outcome_of, Copies, Shows, Listed, Adds, Within}
+use Rattle.pipeline.specs.Replies.{Reply}
+use Rattle.pipeline.specs.Adding.{Line, Added, outcome_of, Copied, Copies, Shows, Listed, Adds, Within}
 
 leb_of : (m n : ℕ) (b : Bool) → leb m n && b ≡ true → m ≤ n
 leb_of m n b e = grind (arith, nat_tests)
@@ -29,15 +27,16 @@ few offer nodes f rows =
     omega (arith, h, ap length rows, length-map nodes node_row)
 
 granted : (nodes : List Datanode) (places : ℕ × ℕ) (reply : Reply) → Within nodes (Ok places) → Within nodes (outcome_of reply places)
-granted nodes places Good w = w
-granted nodes places Lost w = tt
-granted nodes places Undecodable w = tt
-granted nodes places Status w = tt
+granted nodes places (Ok _) w = w
+granted nodes places (Err why) w = tt
 
 module _ {L : Type 0} (transfers : L → Datanode → List ℕ → Option (List ℕ) → L → Type 0) (nodes : List Datanode) (s t : Line L) (r : Added) where
+  -- places were chosen, and the block copied from one to the other
+  pub copied : (header : ClientOperationHeader) (choice : Result (ℕ × ℕ) NoChoice) (places : ℕ × ℕ) → Ok places ≡ choice → Copied transfers header nodes places s r t → Copies transfers header nodes choice s r t
+  copied header choice places e d = subst (λ (z : Result (ℕ × ℕ) NoChoice). Copies transfers header nodes z s r t) e d
+
   within_of : (header : ClientOperationHeader) (choice : Result (ℕ × ℕ) NoChoice) → length nodes ≤ 8 → Copies transfers header nodes choice s r t → Within nodes r
-  within_of header (Err NewNode) h c = subst (Within nodes) (sym c.0) tt
-  within_of header (Err Source) h c = subst (Within nodes) (sym c.0) tt
+  within_of header (Err why) h c = subst (Within nodes) (sym c.0) tt
   within_of header (Ok places) h c = subst (Within nodes) (sym c.is) (granted nodes places c.reply (h, c.new_within, c.source_within))
 
   -- the list that was read is lent, and a datanode of it chosen

@@ -11,9 +11,10 @@ use Rattle.replace.specs.Choice.{choice_of}
 use Rattle.namenode.specs.Entries.{Ask, Offer}
 use Rattle.pipeline.specs.declared.add_datanode.NoDatanode.{NoDatanode}
 use Rattle.pipeline.specs.declared.add_datanode.NoDatanode.TheVariants as no
-use Rattle.pipeline.specs.declared.reply.Reply.{Reply}
-use Rattle.pipeline.specs.declared.reply.Reply.TheVariants.{Good, Lost, Undecodable, Status}
+use Rattle.pipeline.specs.declared.reply.ReplyError.{ReplyError}
+use Rattle.pipeline.specs.declared.reply.ReplyError.TheVariants.{Lost, Undecodable, Status}
 use Rattle.pipeline.specs.Offers.{Rows, in_form}
+use Rattle.pipeline.specs.Replies.{Reply}
 use Rattle.pipeline.specs.Transfers.{Transfers}
 
 -- a link, and the buffers for a request and for its response
@@ -26,11 +27,18 @@ pub record Line (L : Type 0) : Type 0 where
 abbrev pub Added : Type 0
 Added = Result (ℕ × ℕ) NoDatanode
 
+abbrev pub unchosen : NoChoice → NoDatanode
+unchosen NewNode = no.NoNewNode
+unchosen Source = no.NoSource
+
+abbrev pub uncopied : ReplyError → NoDatanode
+uncopied Lost = no.Lost
+uncopied Undecodable = no.Undecodable
+uncopied Status = no.Status
+
 abbrev pub outcome_of : Reply → ℕ × ℕ → Added
-outcome_of Good places = Ok places
-outcome_of Lost places = Err no.Lost
-outcome_of Undecodable places = Err no.Undecodable
-outcome_of Status places = Err no.Status
+outcome_of (Ok _) places = Ok places
+outcome_of (Err why) places = Err (uncopied why)
 
 -- the block was copied from the datanode at one place of the list to that at another, by one request
 pub record Copied {L : Type 0} (transfers : L → Datanode → List ℕ → Option (List ℕ) → L → Type 0) (header : ClientOperationHeader) (nodes : List Datanode) (places : ℕ × ℕ) (s : Line L) (r : Added) (t : Line L) : Type 0 where
@@ -46,8 +54,7 @@ pub record Copied {L : Type 0} (transfers : L → Datanode → List ℕ → Opti
 
 -- where no datanode was chosen nothing was sent
 abbrev pub Copies : {L : Type 0} → (L → Datanode → List ℕ → Option (List ℕ) → L → Type 0) → ClientOperationHeader → List Datanode → Result (ℕ × ℕ) NoChoice → Line L → Added → Line L → Type 0
-Copies transfers header nodes (Err NewNode) s r t = (r ≡ Err no.NoNewNode) × (t ≡ s)
-Copies transfers header nodes (Err Source) s r t = (r ≡ Err no.NoSource) × (t ≡ s)
+Copies transfers header nodes (Err why) s r t = (r ≡ Err (unchosen why)) × (t ≡ s)
 Copies transfers header nodes (Ok places) s r t = Copied transfers header nodes places s r t
 
 -- the header shows the token that came with the list

@@ -5,9 +5,8 @@ use Rattle.proto.specs.declared.datanode.Datanode.{Datanode}
 use Rattle.request.specs.declared.write_block.WriteBlock.{WriteBlock}
 use Rattle.request.specs.Requests.{write_fields, framed}
 use Rattle.request.specs.SetupLaw.{Widths}
-use Rattle.pipeline.specs.declared.reply.Reply.{Reply}
 use Rattle.pipeline.specs.declared.set_up.Setting.{Setting}
-use Rattle.pipeline.specs.Replies.{Asked}
+use Rattle.pipeline.specs.Replies.{Reply, Asked}
 
 -- the request for a pipeline of these datanodes, in their order, with these settings
 pub record Requests (setting : Setting) (pipeline : List Datanode) (message : WriteBlock) : Type 0 where

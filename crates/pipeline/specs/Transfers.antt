@@ -5,8 +5,7 @@ use Rattle.proto.specs.declared.block.ClientOperationHeader.{ClientOperationHead
 use Rattle.proto.specs.declared.datanode.Datanode.{Datanode}
 use Rattle.request.specs.declared.transfer_block.TransferBlock.{TransferBlock}
 use Rattle.request.specs.Requests.{transfer_fields, framed}
-use Rattle.pipeline.specs.declared.reply.Reply.{Reply}
-use Rattle.pipeline.specs.Replies.{Asked}
+use Rattle.pipeline.specs.Replies.{Reply, Asked}
 
 -- the request's octets, with code 86
 abbrev pub copy_octets : TransferBlock → List ℕ

@@ -1,18 +1,20 @@
 //! A datanode added to a pipeline that lost one: asked for at the namenode, chosen from its list, and given a copy of the block.
-ghost use Rattle.std.specs.Prelude.{◌≡◌, ◌≤◌, length, vec_capacity};
+ghost use Rattle.std.specs.Prelude.{◌≡◌, ◌≤◌, length};
 ghost use Rattle.replace.specs.Choice.{choice_of};
-ghost use Rattle.pipeline.specs.Adding.{outcome_of, Copies, Adds, Within};
+ghost use Rattle.pipeline.specs.declared.add_datanode.NoDatanode.TheVariants as no;
+ghost use Rattle.pipeline.specs.Adding.{unchosen, uncopied, Copies, Adds, Within};
 
 use crate::nodes::NodeTable;
 use crate::offer::read_offer;
-use crate::reply::Reply;
+use crate::reply::ReplyError;
 use crate::transfer::transfer;
 use chain::link::Link;
-use namenode::protocol::NamenodeProtocol;
+use namenode::protocol::{NamenodeProtocol, Refused};
 use proto::block::{ClientOperationHeader, ExtendedBlock};
 use proto::datanode::Datanode;
 use proto::fixed::Fixed;
 use replace::choice::{NoChoice, choose};
+use std::fmt;
 
 /// Why no datanode could be added.
 #[derive(Clone, Copy, Debug, PartialEq, Eq)]
@@ -33,15 +35,48 @@ pub enum NoDatanode {
     Status,
 }
 
-// The places of the new datanode and its source, where the copy was granted.
-fn outcome(reply: Reply, new: usize, source: usize) -> Result<(usize, usize), NoDatanode>
-    ensures { result ≡ outcome_of reply (new, source) }
-{
-    match reply {
-        Reply::Good => Ok((new, source)),
-        Reply::Lost => Err(NoDatanode::Lost),
-        Reply::Undecodable => Err(NoDatanode::Undecodable),
-        Reply::Status => Err(NoDatanode::Status),
+impl fmt::Display for NoDatanode {
+    fn fmt<W: fmt::Write>(&self, f: &mut fmt::Formatter<W>) -> fmt::Result {
+        match self {
+            NoDatanode::Namenode => write!(f, "the namenode refused"),
+            NoDatanode::List => write!(f, "the namenode's list is not in form"),
+            NoDatanode::NoNewNode => write!(f, "the namenode's list has no new datanode"),
+            NoDatanode::NoSource => write!(f, "there is no datanode to copy the block from"),
+            NoDatanode::Lost => write!(f, "the request for the copy was lost"),
+            NoDatanode::Undecodable => write!(f, "the response to the copy cannot be read"),
+            NoDatanode::Status => write!(f, "the response to the copy is not SUCCESS"),
+        }
+    }
+}
+
+impl From<Refused> for NoDatanode {
+    ghost from_gives = { λ _ e. e ≡ no.Namenode };
+
+    fn from(_: Refused) -> NoDatanode {
+        NoDatanode::Namenode
+    }
+}
+
+impl From<NoChoice> for NoDatanode {
+    ghost from_gives = { λ why e. e ≡ unchosen why };
+
+    fn from(why: NoChoice) -> NoDatanode {
+        match why {
+            NoChoice::NewNode => NoDatanode::NoNewNode,
+            NoChoice::Source => NoDatanode::NoSource,
+        }
+    }
+}
+
+impl From<ReplyError> for NoDatanode {
+    ghost from_gives = { λ why e. e ≡ uncopied why };
+
+    fn from(why: ReplyError) -> NoDatanode {
+        match why {
+            ReplyError::Lost => NoDatanode::Lost,
+            ReplyError::Undecodable => NoDatanode::Undecodable,
+            ReplyError::Status => NoDatanode::Status,
+        }
     }
 }
 
@@ -57,13 +92,9 @@ fn copy_to_new<'a, L: Link>(
     requires { 4096 ≤ length request.old }
     ensures { Copies L.Link.transfers header.entry list.now (choice_of list.now old.now) (record { link = link.entry.now; request = request.old; answer = answer.old }) result (record { link = link.exit.now; request = request.new; answer = answer.new }) }
 {
-    let (new, source) = match choose(list, old) {
-        Ok(places) => places,
-        Err(NoChoice::NewNode) => return Err(NoDatanode::NoNewNode),
-        Err(NoChoice::Source) => return Err(NoDatanode::NoSource),
-    };
-    let reply = transfer(link, header, &list[source], &list[new], request, answer);
-    outcome(reply, new, source)
+    let (new, source) = choose(list, old)?;
+    transfer(link, header, &list[source], &list[new], request, answer)?;
+    Ok((new, source))
 }
 
 /// Adds a datanode to a pipeline of the datanodes `left`, after those that are `gone`; `old` are all that it had. The namenode is asked
@@ -81,17 +112,12 @@ pub fn add_datanode<L: Link, N: NamenodeProtocol>(
     request: &mut [u8],
     answer: &mut [u8],
 ) -> Result<(usize, usize), NoDatanode>
-    requires { (4096 ≤ length request.old) × (8 ≤ vec_capacity list.old.rows) }
+    requires { 4096 ≤ length request.old }
     ensures acts { Adds L.Link.transfers N.NamenodeProtocol.lists block client_name.now old.now left.now gone.now list.old.rows.items list.new.rows.items (record { link = link.entry.now; request = request.old; answer = answer.old }) namenode.old result (record { link = link.exit.now; request = request.new; answer = answer.new }) namenode.new }
     ensures within { Within list.new.rows.items result }
-    ensures capacity { vec_capacity list.new.rows ≡ vec_capacity list.old.rows }
 {
-    if !namenode.get_additional_datanode(block.num_bytes, left, gone) {
-        return Err(NoDatanode::Namenode);
-    }
-    let Some(token) = read_offer(namenode, list) else {
-        return Err(NoDatanode::List);
-    };
+    namenode.get_additional_datanode(block.num_bytes, left, gone)?;
+    let token = read_offer(namenode, list).ok_or(NoDatanode::List)?;
     let header = ClientOperationHeader {
         block,
         token: &token,

@@ -2,7 +2,7 @@
 ghost use Rattle.std.specs.Prelude.{◌≤◌, length};
 ghost use Rattle.pipeline.specs.SetUps.{Requests, SetsUp};
 
-use crate::reply::{Reply, judge_reply};
+use crate::reply::{ReplyError, judge_reply};
 use crate::write_request::write_request;
 use chain::link::Link;
 use proto::block::ClientOperationHeader;
@@ -46,7 +46,7 @@ pub fn set_up<'a, L: Link>(
     setting: Setting<'a>,
     request: &mut [u8],
     answer: &mut [u8],
-) -> Reply
+) -> Result<(), ReplyError>
     requires { (1 ≤ length nodes.now) × ((length nodes.now ≤ 8) × (4096 ≤ length request.old)) }
     ensures { SetsUp L.Link.sets setting.entry nodes.now link.old request.old request.new answer.old answer.new result link.new }
 {

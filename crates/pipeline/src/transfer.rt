@@ -2,7 +2,7 @@
 ghost use Rattle.std.specs.Prelude.{◌≤◌, length};
 ghost use Rattle.pipeline.specs.Transfers.{Transfers};
 
-use crate::reply::{Reply, judge_reply};
+use crate::reply::{ReplyError, judge_reply};
 use crate::write_request::write_request;
 use chain::link::Link;
 use proto::block::ClientOperationHeader;
@@ -18,7 +18,7 @@ pub fn transfer<'a, L: Link>(
     target: &'a Datanode,
     request: &mut [u8],
     answer: &mut [u8],
-) -> Reply
+) -> Result<(), ReplyError>
     requires { 4096 ≤ length request.old }
     ensures { Transfers L.Link.transfers header.entry source.now target.now link.old request.old request.new answer.old answer.new result link.new }
 {
