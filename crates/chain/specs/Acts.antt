@@ -1,7 +1,5 @@
 -- What a call of a link did: what was asked, what came, and what that leaves in the buffer that was lent. Assumes nothing.
-use Rattle.std.specs.Prelude.{◌≡◌, ℕ, ◌≤◌, List, ◌++◌, length, drop, Some, None, Option}
-use Rattle.chain.specs.declared.link.Next.{Next}
-use Rattle.chain.specs.declared.link.Next.TheVariants.{Nothing, Lost, Answer}
+use Rattle.std.specs.Prelude.{◌≡◌, ℕ, ◌≤◌, List, ◌++◌, length, drop, Some, None, Option, Ok, Err, Result}
 
 -- what a link had when it was asked for the next answer
 pub data Came : Type 0 where
@@ -16,12 +14,12 @@ pub record Front (message before after : List ℕ) (n : ℕ) : Type 0 where
   pub is : after ≡ message ++ drop n before
 
 -- a response came, or the request was lost; `act` says of each whether the link did it
-abbrev pub Replied : (Option (List ℕ) → Type 0) → List ℕ → List ℕ → Option ℕ → Type 0
-Replied act before after (Some n) = (message : List ℕ) × (Front message before after n × act (Some message))
-Replied act before after None = (after ≡ before) × act None
+abbrev pub Replied : {E : Type 0} → (Option (List ℕ) → Type 0) → List ℕ → List ℕ → Result ℕ E → Type 0
+Replied act before after (Ok n) = (message : List ℕ) × (Front message before after n × act (Some message))
+Replied act before after (Err e) = (after ≡ before) × act None
 
 -- an answer came, or none, or the link was lost
-abbrev pub Answered : (Came → Type 0) → List ℕ → List ℕ → Next → Type 0
-Answered act before after Nothing = (after ≡ before) × act nothing
-Answered act before after Lost = (after ≡ before) × act lost
-Answered act before after (Answer n) = (message : List ℕ) × (Front message before after n × act (answer message))
+abbrev pub Answered : {E : Type 0} → (Came → Type 0) → List ℕ → List ℕ → Result (Option ℕ) E → Type 0
+Answered act before after (Ok None) = (after ≡ before) × act nothing
+Answered act before after (Ok (Some n)) = (message : List ℕ) × (Front message before after n × act (answer message))
+Answered act before after (Err e) = (after ≡ before) × act lost

@@ -1,20 +1,20 @@
 //! A link to a pipeline, by its own acts. Only the link can say which acts there are, so code that does not call it, or that claims another
 //! outcome than the one that came, has no act to show. A connection to real datanodes is a link; that they mean what they say is the cluster's part.
-ghost use Rattle.std.specs.Prelude.{ℕ, Bool, List, Option};
+ghost use Rattle.std.specs.Prelude.{ℕ, Bool, List, Option, is_ok};
 ghost use Rattle.proto.specs.declared.datanode.Datanode.{Datanode};
 ghost use Rattle.chain.specs.Acts.{Came, Replied, Answered};
 
 use proto::datanode::Datanode;
+use std::fmt;
 
-/// What a link has when it is asked for the next answer.
+/// A link is lost, or what was sent on it, or what came and found no room.
 #[derive(Clone, Copy, Debug, PartialEq, Eq)]
-pub enum Next {
-    /// No answer has come yet.
-    Nothing,
-    /// The link is lost.
-    Lost,
-    /// An answer of so many octets, at the front of the buffer.
-    Answer(usize),
+pub struct LinkLost;
+
+impl fmt::Display for LinkLost {
+    fn fmt<W: fmt::Write>(&self, f: &mut fmt::Formatter<W>) -> fmt::Result {
+        write!(f, "the link is lost")
+    }
 }
 
 pub trait Link: Sized {
@@ -30,26 +30,33 @@ pub trait Link: Sized {
     /// The datanode connected to, the request, and the response if one came.
     ghost transfers: { Self → Datanode → List ℕ → Option (List ℕ) → Self → Type 0 };
 
-    /// Sends a request that sets up a pipeline to its first datanode. The response stands at the front of `answer`, which stays as it was where
-    /// the request, or a response longer than `answer`, was lost. `least` is how many bytes all datanodes must have, and keep.
+    /// Sends a request that sets up a pipeline to its first datanode, and answers how many octets the response has. It stands at the front of
+    /// `answer`, which stays as it was where the request, or a response longer than `answer`, was lost. `least` is how many bytes all
+    /// datanodes must have, and keep.
     fn set_up(
         &mut self,
         node: &Datanode,
         request: &[u8],
         least: u64,
         answer: &mut [u8],
-    ) -> Option<usize>
+    ) -> Result<usize, LinkLost>
         ensures { Replied (λ came. sets self.old node.now request.now least came self.new) answer.old answer.new result };
 
-    /// Sends a frame. `false` says that it was lost.
-    fn put(&mut self, frame: &[u8]) -> bool
-        ensures { puts self.old frame.now result self.new };
+    /// Sends a frame.
+    fn put(&mut self, frame: &[u8]) -> Result<(), LinkLost>
+        ensures { puts self.old frame.now (is_ok result) self.new };
 
-    /// Asks for the next answer, which stands at the front of `answer`; with none, or where the link is lost, `answer` stays as it was.
-    fn next(&mut self, answer: &mut [u8]) -> Next
+    /// Asks for the next answer, and tells how many octets it has. It stands at the front of `answer`; where none has come yet, or the link
+    /// is lost, `answer` stays as it was.
+    fn next(&mut self, answer: &mut [u8]) -> Result<Option<usize>, LinkLost>
         ensures { Answered (λ came. nexts self.old came self.new) answer.old answer.new result };
 
-    /// Sends a request that copies the block to a new datanode to the datanode that has it.
-    fn transfer(&mut self, node: &Datanode, request: &[u8], answer: &mut [u8]) -> Option<usize>
+    /// Sends a request that copies the block to a new datanode to the datanode that has it. Its response comes as that of a set up.
+    fn transfer(
+        &mut self,
+        node: &Datanode,
+        request: &[u8],
+        answer: &mut [u8],
+    ) -> Result<usize, LinkLost>
         ensures { Replied (λ came. transfers self.old node.now request.now came self.new) answer.old answer.new result };
 }

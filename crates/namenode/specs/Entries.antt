@@ -1,5 +1,5 @@
 -- What a namenode has of a block, what it is asked, and what it offers. Assumes nothing.
-use Rattle.std.specs.Prelude.{◌≡◌, ℕ, zero, suc, Bool, true, false, List, [], ◌∷◌, map, Some, None, Option}
+use Rattle.std.specs.Prelude.{◌≡◌, ℕ, zero, suc, Bool, true, false, List, [], ◌∷◌, map, Some, None, Option, Ok, Err, Result}
 use Rattle.proto.specs.declared.datanode.Datanode.{Datanode}
 use Rattle.proto.specs.Messages.{held, id_of}
 use Rattle.namenode.specs.declared.protocol.Offered.{Offered}
@@ -38,9 +38,9 @@ Lists act offer true = act (Some offer)
 Lists act offer false = act None
 
 -- a new stamp comes with a token
-abbrev pub Stamps : (Option (ℕ × List ℕ) → Type 0) → List ℕ → Option ℕ → Type 0
-Stamps act token (Some stamp) = act (Some (stamp, token))
-Stamps act token None = act None
+abbrev pub Stamps : {E : Type 0} → (Option (ℕ × List ℕ) → Type 0) → List ℕ → Result ℕ E → Type 0
+Stamps act token (Ok stamp) = act (Some (stamp, token))
+Stamps act token (Err e) = act None
 
 -- an accepted update replaces the entry whole, and nothing else does
 abbrev pub Updates : Entry → Bool → Entry → Entry → Type 0

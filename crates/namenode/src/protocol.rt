@@ -1,8 +1,19 @@
 //! The three requests of a writer to its namenode, by the namenode's own acts. Each may be refused at any time.
-ghost use Rattle.std.specs.Prelude.{◌≡◌, ℕ, Bool, List, length, Option};
+ghost use Rattle.std.specs.Prelude.{◌≡◌, ℕ, Bool, List, length, Option, is_ok};
 ghost use Rattle.namenode.specs.Entries.{Entry, Ask, Offer, Lists, Stamps, entry_for, row_at, row_of};
 
 use proto::datanode::Datanode;
+use std::fmt;
+
+/// The namenode refused.
+#[derive(Clone, Copy, Debug, PartialEq, Eq)]
+pub struct Refused;
+
+impl fmt::Display for Refused {
+    fn fmt<W: fmt::Write>(&self, f: &mut fmt::Formatter<W>) -> fmt::Result {
+        write!(f, "the namenode refused")
+    }
+}
 
 /// A datanode as the namenode hands it out. Whether it is in form is for the writer to look at.
 #[derive(Clone, Copy)]
@@ -28,14 +39,14 @@ pub trait NamenodeProtocol: Sized {
     /// The entry asked for, and whether it was accepted.
     ghost updates: { Self → Entry → Bool → Self → Type 0 };
 
-    /// Asks for a list of datanodes with one more than those that are left. `false` is a refusal.
+    /// Asks for a list of datanodes with one more than those that are left.
     fn get_additional_datanode(
         &mut self,
         size: u64,
         survivors: &[Datanode],
         failed: &[Datanode],
-    ) -> bool
-        ensures { Lists (λ came. lists self.old (record { size = size; survivors = survivors.now; failed = failed.now }) came self.new) (offer self.new) result };
+    ) -> Result<(), Refused>
+        ensures { Lists (λ came. lists self.old (record { size = size; survivors = survivors.now; failed = failed.now }) came self.new) (offer self.new) (is_ok result) };
 
     /// How many datanodes the list has.
     fn offered_len(&self) -> usize
@@ -49,15 +60,15 @@ pub trait NamenodeProtocol: Sized {
     fn offered_token(&self) -> &[u8]
         ensures { result.now ≡ (offer self.now).token };
 
-    /// Asks for a new generation stamp. `None` is a refusal.
-    fn update_block_for_pipeline(&mut self, size: u64) -> Option<u64>
+    /// Asks for a new generation stamp.
+    fn update_block_for_pipeline(&mut self, size: u64) -> Result<u64, Refused>
         ensures { Stamps (λ came. stamps self.old size came self.new) (token self.new) result };
 
     /// The token that came with the stamp.
     fn stamp_token(&self) -> &[u8]
         ensures { result.now ≡ token self.now };
 
-    /// Tells where the block now is, at which stamp and length. `false` is a refusal.
-    fn update_pipeline(&mut self, stamp: u64, size: u64, nodes: &[Datanode]) -> bool
-        ensures { updates self.old (entry_for stamp size nodes.now) result self.new };
+    /// Tells where the block now is, at which stamp and length.
+    fn update_pipeline(&mut self, stamp: u64, size: u64, nodes: &[Datanode]) -> Result<(), Refused>
+        ensures { updates self.old (entry_for stamp size nodes.now) (is_ok result) self.new };
 }
