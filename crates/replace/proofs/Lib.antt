@@ -1,3 +1,2 @@
-pub mod Same
 pub mod Lasts
 pub mod Scans

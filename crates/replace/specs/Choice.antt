@@ -1,5 +1,6 @@
 -- The datanode that replaces a failed one, and its source, as positions of a list. Assumes nothing.
-use Rattle.std.specs.Prelude.{ℕ, ◌+◌, ◌-◌, Bool, false, cond, ◌&&◌, ◌||◌, List, [], ◌∷◌, length, Some, None, Ok, Err, Option, Result, ◌==◌, nat_lt}
+use Rattle.std.specs.Prelude.{ℕ, ◌+◌, ◌-◌, Bool, cond, ◌&&◌, List, [], ◌∷◌, length, Some, None, Ok, Err, Option, Result, ◌==◌, nat_lt}
+use Rattle.std.specs.List.{list_any}
 use Rattle.std.specs.Str.{bytes_eq}
 use Rattle.proto.specs.declared.datanode.Datanode.{Datanode}
 use Rattle.proto.specs.Messages.{ip_of, port_of}
@@ -10,9 +11,9 @@ use Rattle.replace.specs.declared.choice.NoChoice.TheVariants.{NewNode, Source}
 abbrev pub same_address : Datanode → Datanode → Bool
 same_address a b = port_of a == port_of b && bytes_eq (ip_of a) (ip_of b)
 
+-- one of os is the same as n
 abbrev pub any_same : List Datanode → Datanode → Bool
-any_same [] n = false
-any_same (o ∷ os) n = same_address o n || any_same os n
+any_same os n = list_any (λ o. same_address o n) os
 
 -- the position of the first of ns, counted from i, that is none of os
 abbrev pub first_new : ℕ → List Datanode → List Datanode → Option ℕ

@@ -24,41 +24,26 @@ fn same_address(a: &Datanode, b: &Datanode) -> bool
 pub fn any_same(nodes: &[Datanode], node: &Datanode) -> bool
     ensures { result ≡ any_same nodes.now node.now }
 {
-    for old in nodes {
-        if same_address(old, node) {
-            return true;
-        }
-    }
-    false
+    nodes.iter().any(|old| same_address(old, node))
 }
 
 /// The position of the first datanode of `list` whose ip and port none of `old` has.
 pub fn first_new(list: &[Datanode], old: &[Datanode]) -> Option<usize>
     ensures { result ≡ first_new 0 list.now old.now }
 {
-    for i in 0..list.len() {
-        if !any_same(old, &list[i]) {
-            return Some(i);
-        }
-    }
-    None
+    list.iter().position(|node| !any_same(old, node))
 }
 
 /// The position of the new datanode and that of its source, which is the one before it, or position 1 where it is the first.
 pub fn choose(list: &[Datanode], old: &[Datanode]) -> Result<(usize, usize), NoChoice>
     ensures { result ≡ choice_of list.now old.now }
 {
-    match first_new(list, old) {
-        None => Err(NoChoice::NewNode),
-        Some(new) => {
-            if new > 0 {
-                return Ok((new, new - 1));
-            }
-            if list.len() > 1 {
-                Ok((new, 1))
-            } else {
-                Err(NoChoice::Source)
-            }
-        }
+    let new = first_new(list, old).ok_or(NoChoice::NewNode)?;
+    if new > 0 {
+        Ok((new, new - 1))
+    } else if list.len() > 1 {
+        Ok((new, 1))
+    } else {
+        Err(NoChoice::Source)
     }
 }

@@ -41,29 +41,40 @@ fn is_true(value: &str) -> bool
     value.eq_ignore_ascii_case("true")
 }
 
-// The policy of that name, in letters of either case; any other word is the default policy.
-fn policy_of(value: &str) -> Policy
-    ensures { result ≡ policy_of value.now }
-{
-    if value.eq_ignore_ascii_case("NEVER") {
-        return Policy::Never;
+/// The policy of that name, in letters of either case; any other word is the default policy.
+impl From<&str> for Policy {
+    ghost from_gives = { λ name policy. policy ≡ policy_of name.now };
+
+    fn from(name: &str) -> Self {
+        if name.eq_ignore_ascii_case("NEVER") {
+            Policy::Never
+        } else if name.eq_ignore_ascii_case("ALWAYS") {
+            Policy::Always
+        } else {
+            Policy::Default
+        }
     }
-    if value.eq_ignore_ascii_case("ALWAYS") {
-        return Policy::Always;
-    }
-    Policy::Default
 }
 
-impl Settings {
-    /// What holds where nothing is set: replacement by the default policy, without best effort.
-    pub fn new() -> Self
-        ensures { result ≡ defaults }
-    {
+/// What holds where nothing is set: replacement by the default policy, without best effort.
+impl Default for Settings {
+    ghost is_default = { λ settings. settings ≡ defaults };
+
+    fn default() -> Self {
         Settings {
             enable: true,
             policy: Policy::Default,
             best_effort: false,
         }
+    }
+}
+
+impl Settings {
+    /// The settings where nothing is set.
+    pub fn new() -> Self
+        ensures { result ≡ defaults }
+    {
+        Settings::default()
     }
 
     /// Takes one setting. A name counts letter for letter, and one that is none of the three changes nothing.
@@ -72,7 +83,7 @@ impl Settings {
     {
         match key_of(name) {
             Some(Key::Enable) => self.enable = is_true(value),
-            Some(Key::Policy) => self.policy = policy_of(value),
+            Some(Key::Policy) => self.policy = Policy::from(value),
             Some(Key::BestEffort) => self.best_effort = is_true(value),
             None => {}
         }
@@ -82,7 +93,7 @@ impl Settings {
     pub fn from_pairs(pairs: &[(&str, &str)]) -> Self
         ensures { result ≡ listed (texts pairs.now) }
     {
-        let mut settings = Settings::new();
+        let mut settings = Settings::default();
         for (name, value) in pairs {
             settings.set(name, value);
         }

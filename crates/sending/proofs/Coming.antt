@@ -1,11 +1,10 @@
 -- What was heard, as what came. Assumes nothing.
-use Rattle.std.proofs.Common.{◌≡◌, ℕ, List, ◌++◌, drop, Ok, Err, Result, sym, refl, ap, ◌∙◌}
+use Rattle.std.proofs.Common.{◌≡◌, ℕ, List, ◌++◌, drop, Some, None, Ok, Err, Result, sym, refl, ap, ◌∙◌}
 use Rattle.wire.specs.declared.field.DecodeError.{DecodeError}
 use Rattle.ack.specs.declared.ack.Verdict.{Verdict}
 use Rattle.chain.specs.Acts.{Came, nothing, lost, answer}
-use Rattle.sending.specs.declared.ask.Heard.{Heard}
-use Rattle.sending.specs.declared.ask.Heard.TheVariants.{Quiet, Lost, Undecodable, Judged}
-use Rattle.sending.specs.Asking.{heard_of, heard_in, answer_over, Says, Hears}
+use Rattle.sending.specs.declared.ask.AskError.TheVariants.{Lost, Undecodable}
+use Rattle.sending.specs.Asking.{Heard, heard_of, heard_in, answer_over, Says, Hears}
 
 -- an act, with what it is heard as and what it leaves in the buffer
 pub record Comes {L : Type 0} (nexts : L → Came → L → Type 0) (a : L) (before after : List ℕ) (b : L) (h : Heard) : Type 0 where
@@ -24,7 +23,7 @@ module _ {L : Type 0} (nexts : L → Came → L → Type 0) (a : L) (before afte
   }
 
   pub comes : (h : Heard) → Hears nexts a before after b h → Comes nexts a before after b h
-  comes Quiet x = record { came = nothing; acted = x.1; heard = refl; buffer = x.0 }
-  comes Lost x = record { came = lost; acted = x.1; heard = refl; buffer = x.0 }
-  comes (Undecodable e) x = said (Err e) x
-  comes (Judged v) x = said (Ok v) x
+  comes (Ok None) x = record { came = nothing; acted = x.1; heard = refl; buffer = x.0 }
+  comes (Ok (Some v)) x = said (Ok v) x
+  comes (Err Lost) x = record { came = lost; acted = x.1; heard = refl; buffer = x.0 }
+  comes (Err (Undecodable e)) x = said (Err e) x

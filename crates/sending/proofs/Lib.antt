@@ -1,3 +1,2 @@
 pub mod Coming
 pub mod Frames
-pub mod Hearing

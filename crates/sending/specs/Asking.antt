@@ -1,15 +1,19 @@
 -- An answer asked for: the act that came, and what the answer says. Assumes nothing.
-use Rattle.std.specs.Prelude.{◌≡◌, ℕ, List, ◌++◌, length, drop, Ok, Err, Result}
+use Rattle.std.specs.Prelude.{◌≡◌, ℕ, List, ◌++◌, length, drop, Some, None, Option, Ok, Err, Result}
 use Rattle.wire.specs.declared.field.DecodeError.{DecodeError}
 use Rattle.ack.specs.declared.ack.Verdict.{Verdict}
 use Rattle.ack.specs.Verdicts.{verdict_on}
 use Rattle.chain.specs.Acts.{Came, nothing, lost, answer, Front}
-use Rattle.sending.specs.declared.ask.Heard.{Heard}
-use Rattle.sending.specs.declared.ask.Heard.TheVariants.{Quiet, Lost, Undecodable, Judged}
+use Rattle.sending.specs.declared.ask.AskError.{AskError}
+use Rattle.sending.specs.declared.ask.AskError.TheVariants.{Lost, Undecodable}
+
+-- what was heard: no answer yet, a verdict, or why there is none
+abbrev pub Heard : Type 0
+Heard = Result (Option Verdict) AskError
 
 abbrev pub heard_of : Result Verdict DecodeError → Heard
-heard_of (Ok v) = Judged v
-heard_of (Err e) = Undecodable e
+heard_of (Ok v) = Ok (Some v)
+heard_of (Err e) = Err (Undecodable e)
 
 -- an answer came, stands at the front of the buffer, and is judged so
 pub record Says {L : Type 0} (nexts : L → Came → L → Type 0) (a : L) (before after : List ℕ) (b : L) (said : Result Verdict DecodeError) : Type 0 where
@@ -20,15 +24,15 @@ pub record Says {L : Type 0} (nexts : L → Came → L → Type 0) (a : L) (befo
   pub is : verdict_on message ≡ said
 
 abbrev pub Hears : {L : Type 0} → (L → Came → L → Type 0) → L → List ℕ → List ℕ → L → Heard → Type 0
-Hears nexts a before after b Quiet = (after ≡ before) × nexts a nothing b
-Hears nexts a before after b Lost = (after ≡ before) × nexts a lost b
-Hears nexts a before after b (Undecodable e) = Says nexts a before after b (Err e)
-Hears nexts a before after b (Judged v) = Says nexts a before after b (Ok v)
+Hears nexts a before after b (Ok None) = (after ≡ before) × nexts a nothing b
+Hears nexts a before after b (Ok (Some v)) = Says nexts a before after b (Ok v)
+Hears nexts a before after b (Err Lost) = (after ≡ before) × nexts a lost b
+Hears nexts a before after b (Err (Undecodable e)) = Says nexts a before after b (Err e)
 
 -- what is heard where that came, and what it leaves in the buffer
 abbrev pub heard_in : Came → Heard
-heard_in nothing = Quiet
-heard_in lost = Lost
+heard_in nothing = Ok None
+heard_in lost = Err Lost
 heard_in (answer message) = heard_of (verdict_on message)
 
 abbrev pub answer_over : Came → List ℕ → List ℕ

@@ -1,42 +1,43 @@
 //! An answer asked for, and what it says.
 ghost use Rattle.std.specs.Prelude.{◌≡◌};
-ghost use Rattle.ack.specs.Verdicts.{verdict_on};
-ghost use Rattle.sending.specs.Asking.{Hears, heard_of};
+ghost use Rattle.sending.specs.declared.ask.AskError.TheVariants.{Lost, Undecodable};
+ghost use Rattle.sending.specs.Asking.{Hears};
 
 use ack::ack::{Verdict, judge};
-use chain::link::{Link, Next};
+use chain::link::{Link, LinkLost};
 use wire::field::DecodeError;
 
-/// What came when an answer was asked for.
+/// Why nothing was heard when an answer was asked for.
 #[derive(Clone, Copy, Debug, PartialEq, Eq)]
-pub enum Heard {
-    /// No answer has come yet.
-    Quiet,
+pub enum AskError {
     /// The link is lost.
     Lost,
-    /// An answer that cannot be read.
+    /// An answer came that cannot be read.
     Undecodable(DecodeError),
-    /// An answer, and what it means.
-    Judged(Verdict),
 }
 
-// What an answer says.
-fn judged_as(message: &[u8]) -> Heard
-    ensures { result ≡ heard_of (verdict_on message.now) }
-{
-    match judge(message) {
-        Ok(verdict) => Heard::Judged(verdict),
-        Err(error) => Heard::Undecodable(error),
+impl From<LinkLost> for AskError {
+    ghost from_gives = { λ _ error. error ≡ Lost };
+
+    fn from(_lost: LinkLost) -> Self {
+        AskError::Lost
     }
 }
 
-/// Asks the link for its next answer and judges it. The answer stands at the front of `answer`, which stays as it was where none came.
-pub fn ask<L: Link>(link: &mut L, answer: &mut [u8]) -> Heard
+impl From<DecodeError> for AskError {
+    ghost from_gives = { λ fault error. error ≡ Undecodable fault };
+
+    fn from(fault: DecodeError) -> Self {
+        AskError::Undecodable(fault)
+    }
+}
+
+/// Asks the link for its next answer and judges it, if one has come. It stands at the front of `answer`, which stays as it was where none came.
+pub fn ask<L: Link>(link: &mut L, answer: &mut [u8]) -> Result<Option<Verdict>, AskError>
     ensures { Hears L.Link.nexts link.old answer.old answer.new link.new result }
 {
-    match link.next(answer) {
-        Next::Nothing => Heard::Quiet,
-        Next::Lost => Heard::Lost,
-        Next::Answer(len) => judged_as(&answer[0..len]),
+    match link.next(answer)? {
+        None => Ok(None),
+        Some(len) => Ok(Some(judge(&answer[0..len])?)),
     }
 }

@@ -1,5 +1,5 @@
 -- What each call of a spool does, as an act. Assumes nothing.
-use Rattle.std.specs.Prelude.{◌≡◌, ℕ, ◌<◌, ◌≤◌, Bool, true, List, [], ◌∷◌, ◌++◌, length, drop, replicate, Some, None, Option}
+use Rattle.std.specs.Prelude.{◌≡◌, ℕ, ◌<◌, ◌≤◌, Bool, true, List, [], ◌∷◌, ◌++◌, length, drop, replicate, Some, None, Option, Ok, Err, Result}
 use Rattle.ack.specs.Written.{answer_octets}
 use Rattle.packet.specs.Frame.{Packet}
 use Rattle.packet.specs.Reading.{Reads}
@@ -14,9 +14,9 @@ abbrev pub good : List ℕ
 good = 8 ∷ 0 ∷ []
 
 -- the response of status 0 at the front of a buffer of two octets at least
-abbrev pub responded : List ℕ → List ℕ → Option ℕ → Type 0
-responded before after (Some n) = (n ≡ 2) × (2 ≤ length before) × (after ≡ good ++ drop 2 before)
-responded before after None = (length before < 2) × (after ≡ before)
+abbrev pub responded : {E : Type 0} → List ℕ → List ℕ → Result ℕ E → Type 0
+responded before after (Ok n) = (n ≡ 2) × (2 ≤ length before) × (after ≡ good ++ drop 2 before)
+responded before after (Err e) = (length before < 2) × (after ≡ before)
 
 -- a set up that is accepted is answered with status 0; any may be lost, which changes nothing
 abbrev pub SetsFor : Option Setup → View → ℕ → View → Type 0

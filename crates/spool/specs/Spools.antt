@@ -1,6 +1,7 @@
 -- What a spool holds, and what each call makes of it. Assumes nothing.
 use Rattle.std.specs.Prelude.{ℕ, ◌+◌, ◌-◌, ◌^◌, Bool, true, false, cond, ◌&&◌, List, [], ◌∷◌, ◌++◌, length, take, drop, Some, None, vec_items, Option, ◌==◌, nat_le, nat_lt}
 use Rattle.std.specs.Str.{bytes_eq}
+use Rattle.std.specs.VecDeque.{deque_items}
 use Rattle.packet.specs.declared.read.Frame.{Frame}
 use Rattle.packet.specs.Frame.{Packet}
 use Rattle.packet.specs.Sums.{sums_of}
@@ -20,7 +21,7 @@ pub record View : Type 0 where
   pub chunk : ℕ
 
 abbrev pub view_of : Spool → View
-view_of s = record { bytes = vec_items s.bytes; held = vec_items s.held; kept = s.kept; limit = s.limit; most = s.most; nodes = s.nodes; chunk = s.chunk }
+view_of s = record { bytes = vec_items s.bytes; held = deque_items s.held; kept = s.kept; limit = s.limit; most = s.most; nodes = s.nodes; chunk = s.chunk }
 
 -- pending packets over their bytes, the first of which begins at that offset; their sums are right
 abbrev pub packets_from : ℕ → ℕ → List Pending → List ℕ → List Packet

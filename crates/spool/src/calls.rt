@@ -11,7 +11,7 @@ ghost use Rattle.std.proofs.Common.{rules};
 
 use crate::state::Spool;
 use ack::write::write_ack;
-use chain::link::{Link, Next};
+use chain::link::{Link, LinkLost};
 use chain::meaning::Chain;
 use packet::header::HEART_BEAT_SEQNO;
 use packet::read::read_frame;
@@ -19,15 +19,15 @@ use proto::datanode::Datanode;
 use request::setup::Setup;
 
 // The response of status 0, at the front of `answer`.
-fn respond(answer: &mut [u8]) -> Option<usize>
+fn respond(answer: &mut [u8]) -> Result<usize, LinkLost>
     ensures { responded answer.old answer.new result }
 {
     if answer.len() < 2 {
-        return None;
+        return Err(LinkLost);
     }
     answer[0] = 0x08;
     answer[1] = 0x00;
-    Some(2)
+    Ok(2)
 }
 
 // An answer in which every node says that it has the packet.
@@ -54,51 +54,42 @@ impl Link for Spool {
         request: &[u8],
         least: u64,
         answer: &mut [u8],
-    ) -> Option<usize> {
-        let Some(setup) = Setup::read(request) else {
-            return None;
-        };
-        if setup.pipeline_size == 0
-            || setup.pipeline_size > self.most
-            || setup.chunk_size > 0xffff_ffff
-        {
-            return None;
-        }
-        if least > self.kept as u64 || answer.len() < 2 {
-            return None;
+    ) -> Result<usize, LinkLost> {
+        let setup = Setup::read(request).ok_or(LinkLost)?;
+        if !self.sets_up(setup, least) || answer.len() < 2 {
+            return Err(LinkLost);
         }
         self.rebuild(least as usize, setup.pipeline_size, setup.chunk_size as u32);
         respond(answer)
     }
 
-    fn put(&mut self, frame: &[u8]) -> bool {
-        let Some(packet) = read_frame(frame) else {
-            return false;
-        };
+    fn put(&mut self, frame: &[u8]) -> Result<(), LinkLost> {
+        let packet = read_frame(frame).ok_or(LinkLost)?;
         if packet.seqno == HEART_BEAT_SEQNO {
-            return true;
+            return Ok(());
         }
         if !self.takes(packet) {
-            return false;
+            return Err(LinkLost);
         }
         self.hold(packet);
-        true
+        Ok(())
     }
 
-    fn next(&mut self, answer: &mut [u8]) -> Next {
-        if self.held.len() == 0 {
-            return Next::Nothing;
-        }
-        match write_good(answer, self.held[0].seqno, self.nodes as usize) {
-            Some(n) => {
-                self.confirm();
-                Next::Answer(n)
-            }
-            None => Next::Lost,
-        }
+    fn next(&mut self, answer: &mut [u8]) -> Result<Option<usize>, LinkLost> {
+        let Some(first) = self.held.front() else {
+            return Ok(None);
+        };
+        let len = write_good(answer, first.seqno, self.nodes as usize).ok_or(LinkLost)?;
+        self.confirm();
+        Ok(Some(len))
     }
 
-    fn transfer(&mut self, _node: &Datanode, _request: &[u8], answer: &mut [u8]) -> Option<usize> {
+    fn transfer(
+        &mut self,
+        _node: &Datanode,
+        _request: &[u8],
+        answer: &mut [u8],
+    ) -> Result<usize, LinkLost> {
         respond(answer)
     }
 }

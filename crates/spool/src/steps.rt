@@ -1,11 +1,13 @@
 //! What the spool does at each call, apart from the messages.
-ghost use Rattle.std.specs.Prelude.{◌≡◌, ◌+◌, ◌<◌, ◌≤◌, ◌∷◌, length, vec_len};
-ghost use Rattle.spool.specs.Spools.{view_of, rebuilt_to, with_pending, takes, packet_of, confirms_first};
+ghost use Rattle.std.specs.Prelude.{◌≡◌, ◌+◌, ◌<◌, ◌≤◌, ◌∷◌, length, Some, vec_len};
+ghost use Rattle.std.specs.VecDeque.{deque_len};
+ghost use Rattle.spool.specs.Spools.{view_of, sets_up, rebuilt_to, with_pending, takes, packet_of, confirms_first};
 
 use crate::pending::Pending;
 use crate::state::{PENDING, Spool};
 use packet::read::Frame;
 use packet::sums::sums_match;
+use request::setup::Setup;
 
 impl Spool {
     // Keeps the first bytes, and forgets what is pending.
@@ -20,28 +22,30 @@ impl Spool {
         self.chunk = chunk;
     }
 
+    // Whether a set up is for as many nodes as may be, over chunks whose size has 32 bits, and with no more bytes than are kept.
+    pub(crate) fn sets_up(&self, setup: Setup, least: u64) -> bool
+        ensures { result ≡ sets_up (view_of self.now) (Some setup) least }
+    {
+        setup.pipeline_size > 0
+            && setup.pipeline_size <= self.most
+            && setup.chunk_size <= 0xffff_ffff
+            && least <= self.kept as u64
+    }
+
     // Whether a packet begins at the end of what is there, has right sums, and finds a place and room.
     pub(crate) fn takes(&self, frame: Frame<'_>) -> bool
         ensures { result ≡ takes (view_of self.now) (packet_of frame.entry) }
     {
-        if frame.offset != self.bytes.len() as u64 {
-            return false;
-        }
-        if !sums_match(frame.sums, frame.data, self.chunk) {
-            return false;
-        }
-        if self.held.len() >= PENDING {
-            return false;
-        }
-        if self.bytes.len() > self.limit {
-            return false;
-        }
-        frame.data.len() <= self.limit - self.bytes.len()
+        frame.offset == self.bytes.len() as u64
+            && sums_match(frame.sums, frame.data, self.chunk)
+            && self.held.len() < PENDING
+            && self.bytes.len() <= self.limit
+            && frame.data.len() <= self.limit - self.bytes.len()
     }
 
     // Adds a packet to those that wait.
     pub(crate) fn hold(&mut self, frame: Frame<'_>)
-        requires { (vec_len self.old.held < 128) × (vec_len self.old.bytes + length frame.«data».now ≤ self.old.limit) }
+        requires { (deque_len self.old.held < 128) × (vec_len self.old.bytes + length frame.«data».now ≤ self.old.limit) }
         ensures { view_of self.new ≡ with_pending (view_of self.old) (packet_of frame.entry) }
     {
         let len = frame.data.len();
@@ -50,16 +54,16 @@ impl Spool {
             last: frame.last,
             len,
         };
-        let _ = self.held.push(waiting);
+        let _ = self.held.push_back(waiting);
         let _ = self.bytes.extend_from_slice(frame.data);
     }
 
-    // Confirms the first packet that waits.
+    // Confirms the first packet, where one waits.
     pub(crate) fn confirm(&mut self)
-        requires { 0 < vec_len self.old.held }
         ensures { view_of self.new ≡ confirms_first (view_of self.old) }
     {
-        let first = self.held.remove(0);
-        self.kept += first.len;
+        if let Some(first) = self.held.pop_front() {
+            self.kept += first.len;
+        }
     }
 }

@@ -1,12 +1,12 @@
-use Rattle.std.proofs.Common.{sym, ◌∙◌}
-use Rattle.replace.proofs.Scans.{new, old, all_old}
+use Rattle.std.proofs.Common.{not, rules, tests}
+use Rattle.std.proofs.lemmas.Iterator.{YieldsList-from_slice}
+use Rattle.std.proofs.lemmas.Iterator.Search.{position_from_yields_List}
+use Rattle.replace.specs.Choice.{any_same}
+use Rattle.replace.proofs.Scans.{first_is}
 use Rattle.replace.proofs.choice.first_new.Goals as goal
 
-pub returns-then-not-any_same : goal.returns-then-not-any_same
-returns-then-not-any_same c = sym (new c.args.list.now c.args.old.now c.loop-i.i c.index-list-i.result c.loop-i-test.true c.index-list-i.is (sym c.if-not-any_same.ensures)) ∙ c.loop-i.invariant
-
-pub loop-i-preserved : goal.loop-i-preserved
-loop-i-preserved c = sym (old c.args.list.now c.args.old.now c.loop-i.i c.index-list-i.result c.loop-i-test.true c.index-list-i.is (sym c.if-not-any_same.ensures)) ∙ c.loop-i.invariant
-
 pub returns : goal.returns
-returns c = sym (all_old c.args.list.now c.args.old.now c.loop-i.i c.loop-i-test.false) ∙ c.loop-i.invariant
+returns c =
+    let ns = c.args.list.now in
+    let os = c.args.old.now in
+    first_is ns os c.position.result (position_from_yields_List (λ n. not (any_same os n)) _ _ c.position.result c.position.ensures.ran (YieldsList-from_slice ns c.iter.ensures.rest) (λ x b q k. search (rules, tests)))
