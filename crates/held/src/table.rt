@@ -1,10 +1,5 @@
 //! The table of held packets. A packet's number says which record and which slot of the caller's store are its own.
 ghost use Rattle.std.specs.Prelude.{◌≡◌, ◌<◌, length, replicate, IfOk, vec_len, slice_index, slice_index_or, slice_set};
-ghost use Rattle.std.specs.Borrow.{sem, follows};
-ghost use Rattle.std.specs.Vec.{with_item};
-ghost use Rattle.held.specs.Slots.{sizes_of};
-ghost use Rattle.held.specs.contracts.table.HeldTable.{the_row};
-ghost use Rattle.held.specs.contracts.table.HeldPacket.{the_row as packet-row};
 
 use std::alloc::{AllocError, Global};
 
@@ -18,13 +13,20 @@ pub struct HeldPacket {
     pub len: usize,
 }
 
-/// A record for each slot.
+/// A record for each slot that a store may have.
 #[derive(Drop)]
 pub struct HeldTable {
     pub records: Vec<HeldPacket>,
+    ghost table: { vec_len records ≡ 101 },
 }
 
 impl HeldTable {
+    ghost use Rattle.std.specs.Borrow.{sem, follows};
+    ghost use Rattle.std.specs.Vec.{with_item};
+    ghost use Rattle.held.specs.Slots.{sizes_of};
+    ghost use Rattle.held.specs.contracts.table.HeldTable.{the_row};
+    ghost use Rattle.held.specs.contracts.table.HeldPacket.{the_row as packet-row};
+
     /// A table with a record for each slot that there may be. This alone takes memory.
     pub fn new(heap: Global) -> Result<HeldTable, AllocError>
         ensures { IfOk result (λ t. sizes_of t.records.items ≡ replicate 101 0) }
@@ -35,8 +37,8 @@ impl HeldTable {
 
     /// One record, lent to be changed.
     pub fn record(&mut self, i: usize) -> &mut HeldPacket
-        requires { i < vec_len self.old.records }
-        ensures* follows { sem 𝓛 (follows the_row packet-row self.entry.ghost_name result.ghost_name (λ w. record { records = with_item self.old.records i w })) }
+        requires { i < 101 }
+        ensures* follows { sem 𝓛 (follows the_row packet-row self.entry.ghost_name result.ghost_name (λ w. record { records = with_item self.old.records i w; table = self.old.table })) }
         ensures value { result.now ≡ slice_index_or self.old.records.items i result.now }
     {
         &mut self.records[i]
@@ -44,16 +46,15 @@ impl HeldTable {
 
     /// Notes how many bytes the packet of that slot has.
     pub fn note(&mut self, i: usize, len: usize)
-        requires { i < vec_len self.old.records }
-        ensures sizes { sizes_of self.new.records.items ≡ slice_set (sizes_of self.old.records.items) i len }
-        ensures count { vec_len self.new.records ≡ vec_len self.old.records }
+        requires { i < 101 }
+        ensures { sizes_of self.new.records.items ≡ slice_set (sizes_of self.old.records.items) i len }
     {
         self.record(i).len = len;
     }
 
     /// How many bytes the packet of that slot has.
     pub fn len_at(&self, i: usize) -> usize
-        requires { i < vec_len self.now.records }
+        requires { i < 101 }
         ensures { result ≡ slice_index (sizes_of self.now.records.items) i }
     {
         self.records[i].len

@@ -11,7 +11,6 @@ use Rattle.writer.specs.declared.state.kind.State.{State}
 use Rattle.writer.specs.declared.state.kind.State.TheVariants.{Streaming, Finishing, Broken, Complete, Closed}
 use Rattle.writer.specs.declared.terms.Terms.{Terms}
 use Rattle.writer.specs.Sizes.{frame_room}
-use Rattle.writer.specs.States.{listens}
 use Rattle.writer.specs.Views.{View}
 use Rattle.writer.specs.Finishing.{closing_packets, finish_refusal}
 use Rattle.writer.specs.Admits.{by_state, by_room, or_else, refusal_for}
@@ -51,20 +50,6 @@ fits_state v c l e = (both_none (by_state v.state c) (by_room v.terms l) e).0
 pub fits_room : (v : View) (c : Call) (l : Lens) → refusal_for v c l ≡ None → Roomy v.terms l
 fits_room v c l e = roomy v.terms l (both_none (by_state v.state c) (by_room v.terms l) e).1
 
-pub streams_write : (s : State) → by_state s call.Write ≡ None → s ≡ Streaming
-streams_write Streaming e = refl
-streams_write Finishing e = absurd (some_none _ e)
-streams_write (Broken cause f) e = absurd (some_none _ e)
-streams_write Complete e = absurd (some_none _ e)
-streams_write Closed e = absurd (some_none _ e)
-
-pub streams_beat : (s : State) → by_state s call.Beat ≡ None → s ≡ Streaming
-streams_beat Streaming e = refl
-streams_beat Finishing e = absurd (some_none _ e)
-streams_beat (Broken cause f) e = absurd (some_none _ e)
-streams_beat Complete e = absurd (some_none _ e)
-streams_beat Closed e = absurd (some_none _ e)
-
 pub streams_finish : (s : State) → by_state s call.Finish ≡ None → s ≡ Streaming
 streams_finish Streaming e = refl
 streams_finish Finishing e = absurd (some_none _ e)
@@ -72,24 +57,10 @@ streams_finish (Broken cause f) e = absurd (some_none _ e)
 streams_finish Complete e = absurd (some_none _ e)
 streams_finish Closed e = absurd (some_none _ e)
 
-pub listens_heed : (s : State) → by_state s call.Heed ≡ None → listens s ≡ true
-listens_heed Streaming e = refl
-listens_heed Finishing e = refl
-listens_heed (Broken cause f) e = absurd (some_none _ e)
-listens_heed Complete e = absurd (some_none _ e)
-listens_heed Closed e = absurd (some_none _ e)
-
 pub record IsBroken (s : State) : Type 0 where
   pub cause : Cause
   pub finished : Bool
   pub is : s ≡ Broken cause finished
-
-pub broken_recover : (s : State) → by_state s call.Recover ≡ None → IsBroken s
-broken_recover Streaming e = absurd (some_none _ e)
-broken_recover Finishing e = absurd (some_none _ e)
-broken_recover (Broken cause f) e = record { cause = cause; finished = f; is = refl }
-broken_recover Complete e = absurd (some_none _ e)
-broken_recover Closed e = absurd (some_none _ e)
 
 -- a store of another length is refused by every call
 pub refused_store : (v : View) (c : Call) (l : Lens) → (l.store ≡ v.terms.store_len → ⊥) → refusal_for v c l ≡ None → ⊥

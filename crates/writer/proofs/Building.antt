@@ -5,8 +5,7 @@ use Rattle.proto.specs.declared.token.Token.{Token}
 use Rattle.proto.specs.Messages.{held}
 use Rattle.request.specs.declared.stage.Stage.TheVariants.{SetupStreamingRecovery}
 use Rattle.namenode.specs.Entries.{Entry, Ask, Offer}
-use Rattle.pipeline.specs.declared.reply.Reply.{Reply}
-use Rattle.pipeline.specs.declared.reply.Reply.TheVariants.{Good, Lost, Undecodable, Status}
+use Rattle.pipeline.specs.Replies.{Reply}
 use Rattle.pipeline.specs.declared.set_up.Setting.{Setting}
 use Rattle.pipeline.specs.Adding.{Line}
 use Rattle.writer.specs.declared.recover.Recovered.{Recovered}
@@ -20,21 +19,17 @@ use Rattle.writer.specs.Settings.{Settles}
 use Rattle.writer.specs.Stages.{SetsUpOn, built_on}
 use Rattle.writer.specs.Views.{View, chunk_of, least_of, with_state}
 
-ok_reply : (reply : Reply) (least stamp : ℕ) (q : SetUp) → ◌≡◌ {A = Result SetUp Refusal} (Ok q) (built_on reply least stamp) → (reply ≡ Good) × (q.stamp ≡ stamp)
-ok_reply Good least stamp q e = let z : q ≡ record { least = least; stamp = stamp } = cc in (refl, ap (λ (s : SetUp). s.stamp) z)
-ok_reply Lost least stamp q e = absurd (let z : ◌≡◌ {A = ℕ} 0 1 = cc in omega arith)
-ok_reply Undecodable least stamp q e = absurd (let z : ◌≡◌ {A = ℕ} 0 1 = cc in omega arith)
-ok_reply Status least stamp q e = absurd (let z : ◌≡◌ {A = ℕ} 0 1 = cc in omega arith)
+ok_reply : (reply : Reply) (least stamp : ℕ) (q : SetUp) → ◌≡◌ {A = Result SetUp Refusal} (Ok q) (built_on reply least stamp) → (reply ≡ Ok tt) × (q.stamp ≡ stamp)
+ok_reply (Ok _) least stamp q e = let z : q ≡ record { least = least; stamp = stamp } = cc in (refl, ap (λ (s : SetUp). s.stamp) z)
+ok_reply (Err why) least stamp q e = absurd (let z : ◌≡◌ {A = ℕ} 0 1 = cc in omega arith)
 
 module _ {L N : Type 0} (sets : L → Datanode → List ℕ → ℕ → Option (List ℕ) → L → Type 0) (puts : L → List ℕ → Bool → L → Type 0) (transfers : L → Datanode → List ℕ → Option (List ℕ) → L → Type 0)
     (lists : N → Ask → Option Offer → N → Type 0) (stamps : N → ℕ → Option (ℕ × List ℕ) → N → Type 0) (updates : N → Entry → Bool → N → Type 0) where
   err_reply : (reply : Reply) (least stamp : ℕ) (x : Refusal) → ◌≡◌ {A = Result SetUp Refusal} (Err x) (built_on reply least stamp)
       → (v : View) (store : List ℕ) (time : ℕ) (choice : Option (ℕ × ℕ)) (chain : List Datanode) (token : Token) (frame : List ℕ) (a : L) (n : N) (r : Result Recovered Refusal) (w : View) (t : Site L N)
       → r ≡ Err x → w ≡ with_state Closed v → t.frame ≡ frame → t.link ≡ a → t.namenode ≡ n → Answered sets puts transfers lists stamps updates reply v store time choice chain stamp token frame a n r w t
-  err_reply Good least stamp x e v store time choice chain token frame a n r w t er ew ef el en = absurd (let z : ◌≡◌ {A = ℕ} 0 1 = cc in omega arith)
-  err_reply Lost least stamp x e v store time choice chain token frame a n r w t er ew ef el en = let z : x ≡ refusal.Recovery Lost = cc in ((er ∙ ap Err z, ew), ef, el, en)
-  err_reply Undecodable least stamp x e v store time choice chain token frame a n r w t er ew ef el en = let z : x ≡ refusal.Recovery Undecodable = cc in ((er ∙ ap Err z, ew), ef, el, en)
-  err_reply Status least stamp x e v store time choice chain token frame a n r w t er ew ef el en = let z : x ≡ refusal.Recovery Status = cc in ((er ∙ ap Err z, ew), ef, el, en)
+  err_reply (Ok _) least stamp x e v store time choice chain token frame a n r w t er ew ef el en = absurd (let z : ◌≡◌ {A = ℕ} 0 1 = cc in omega arith)
+  err_reply (Err why) least stamp x e v store time choice chain token frame a n r w t er ew ef el en = let z : x ≡ refusal.Recovery why = cc in ((er ∙ ap Err z, ew), ef, el, en)
 
   module _ (v : View) (store : List ℕ) (time : ℕ) (choice : Option (ℕ × ℕ)) (chain : List Datanode) (least stamp : ℕ) (octets frame : List ℕ) (s : Line L) (n : N) (token : Token) (r : Result Recovered Refusal) (w : View) (t : Site L N) (b : L) (given : held token.message ≡ octets) (counted : least ≡ least_of v) where
     settled : (setting : Setting) → Settles (record_of v) token v.terms.client_name SetupStreamingRecovery least v.len stamp (chunk_of v) setting → Settles (record_of v) token v.terms.client_name SetupStreamingRecovery (least_of v) v.len stamp (chunk_of v) setting

@@ -1,11 +1,8 @@
 -- The rows of an opening's three lists. Assumes nothing.
-use Rattle.std.proofs.Common.{◌≡◌, ℕ, zero, suc, ◌<◌, ◌≤◌, List, [], ◌∷◌, map, length, get_or, replicate, sym, refl, ap, ◌∙◌, not-suc-le-zero, arith, Bor}
+use Rattle.std.proofs.Common.{◌≡◌, ℕ, zero, suc, ◌<◌, ◌≤◌, List, [], ◌∷◌, map, length, get_or, replicate, refl, ap, not-suc-le-zero, arith, Bor}
 use Rattle.proto.specs.declared.datanode.Datanode.{Datanode}
 use Rattle.pipeline.specs.Offers.{node_row}
 use Rattle.namenode.specs.Entries.{Row}
-use Rattle.held.specs.declared.table.HeldPacket.{HeldPacket}
-use Rattle.held.specs.Slots.{sizes_of}
-use Rattle.held.proofs.Records.{sizes_long}
 use Rattle.writer.specs.Opening.{rows_of}
 
 pub row_at_lem : (infos names : List (Bor (List ℕ))) (types : List ℕ) (i : ℕ) (d e : Bor (List ℕ)) (x : Row) → i < length infos → length names ≡ length infos → length types ≡ length infos
@@ -26,14 +23,6 @@ pub none_large : (n i k : ℕ) → get_or (replicate n 0) i 0 ≤ k
 none_large zero i k = omega arith
 none_large (suc n) zero k = omega arith
 none_large (suc n) (suc i) k = none_large n i k
-
-replicate_long : (n : ℕ) → length {A = ℕ} (replicate n 0) ≡ n
-replicate_long zero = refl
-replicate_long (suc n) = ap suc (replicate_long n)
-
--- a table whose sizes are all 0 has a record for each
-pub records_long : (rs : List HeldPacket) (n : ℕ) → sizes_of rs ≡ replicate n 0 → length rs ≡ n
-records_long rs n e = sym (sizes_long rs) ∙ ap length e ∙ replicate_long n
 
 pub map_long : (ds : List Datanode) → length (map node_row ds) ≡ length ds
 map_long [] = refl

@@ -1,7 +1,7 @@
 -- What an opening that is not refused says. Assumes nothing.
-use Rattle.std.proofs.Common.{◌≡◌, ℕ, ◌*◌, ◌/◌, ◌^◌, ◌<◌, ◌≤◌, min, Bool, true, false, cond, ◌&&◌, ◌||◌, eqb, ltb, leb, length, Some, None, Option, refl, ap, ◌∙◌, mul-le-mul_right, arith}
+use Rattle.std.proofs.Common.{◌≡◌, ℕ, ◌*◌, ◌/◌, ◌<◌, ◌≤◌, min, Bool, true, false, cond, ◌&&◌, eqb, leb, length, Some, None, Option, refl, ap, ◌∙◌, mul-le-mul_right, arith}
 use Rattle.std.proofs.lemmas.Nat.{le-div, div-add-mod'}
-use Rattle.std.proofs.lemmas.Bool.{leb-true, leb-false, ltb-false, eqb-true, and_parts, or_parts}
+use Rattle.std.proofs.lemmas.Bool.{leb-true, eqb-true, and_parts}
 use Rattle.writer.specs.declared.admit.Lens.{Lens}
 use Rattle.writer.specs.declared.opening.Opening.{Opening}
 use Rattle.writer.specs.declared.refusal.Refusal.{Refusal}
@@ -27,12 +27,6 @@ is_none_else false r h = refl
 
 pub store_fits : (o : Opening) (l : Lens) → by_buffers o l ≡ None → 3 * capacity_in o ≤ l.store
 store_fits o l h = leb-true _ _ (is_none (leb (3 * capacity_in o) l.store) _ (Some refusal.Store) refusal.Store refl h).0
-
-pub lengths_fit : (o : Opening) → by_length o ≡ None → (o.initial_len ≤ o.block_size) × (o.block_size < 2 ^ 63)
-lengths_fit o h =
-    let f = is_none_else (ltb o.block_size o.initial_len || leb (2 ^ 63) o.block_size) refusal.Length h in
-    let p = or_parts (ltb o.block_size o.initial_len) (leb (2 ^ 63) o.block_size) f in
-    (ltb-false _ _ p.0, leb-false _ _ p.1)
 
 pub record Counted (o : Opening) : Type 0 where
   pub some : 1 ≤ length o.infos.now

@@ -1,26 +1,15 @@
 -- A replay, packet by packet. Assumes nothing.
-use Rattle.std.proofs.Common.{◌≡◌, ℕ, zero, suc, ◌+◌, ◌-◌, ◌<◌, ◌≤◌, Bool, true, false, List, ◌∷◌, Some, None, Option, sym, refl, ap, ◌∙◌, subst, not-suc-le-zero, add-zero, zero-add, arith}
+use Rattle.std.proofs.Common.{◌≡◌, ℕ, ◌+◌, ◌-◌, ◌<◌, ◌≤◌, Bool, true, false, List, ◌∷◌, Some, None, Option, sym, ap, ◌∙◌, subst, add-zero, arith}
 use Rattle.packet.specs.Frame.{Packet, octets_of, over}
 use Rattle.held.specs.Slots.{size_at, slot_of, packet_of, last_at, packets}
 use Rattle.held.proofs.Packets.{packets_first, packets_none}
 use Rattle.writer.specs.Replaying.{Replays, all, again, ends}
-
-pub last_not : (f : Bool) (m : ℕ) → 0 < m → last_at f m ≡ false
-last_not f zero h = absurd (not-suc-le-zero h)
-last_not f (suc m) h = refl
-
-pub last_yes : (f : Bool) (m : ℕ) → m ≤ 0 → last_at f m ≡ f
-last_yes f zero h = refl
-last_yes f (suc m) h = absurd (not-suc-le-zero h)
 
 -- where i packets were put, what is made of the rest is made of the whole
 abbrev pub Onward : {L : Type 0} → (L → List ℕ → Bool → L → Type 0) → List Packet → List ℕ → L → ℕ → List Packet → List ℕ → L → Type 0
 Onward {L} puts ps frame a i qs frame' b = (n : ℕ) (lost : Option ℕ) (f : List ℕ) (c : L) → Replays puts qs frame' b n lost f c → Replays puts ps frame a (i + n) lost f c
 
 module _ {L : Type 0} (puts : L → List ℕ → Bool → L → Type 0) (ps : List Packet) (frame : List ℕ) (a : L) where
-  pub from_first : Onward puts ps frame a 0 ps frame a
-  from_first n lost f c r = subst (λ (k : ℕ). Replays puts ps frame a k lost f c) (sym (zero-add n)) r
-
   module _ (u k s : ℕ) (sizes store : List ℕ) (finished : Bool) (i count n o : ℕ) (frame' : List ℕ) (b : L)
       (go : Onward puts ps frame a i (packets u k s sizes store finished (count - i) (n + i) o) frame' b) (less : i < count) where
     first : packets u k s sizes store finished (count - i) (n + i) o ≡ packet_of u o (n + i) (last_at finished (count - i - 1)) (slot_of k s store (n + i) (size_at s sizes (n + i))) ∷ packets u k s sizes store finished (count - (i + 1)) (n + (i + 1)) (o + size_at s sizes (n + i))

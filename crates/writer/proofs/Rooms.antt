@@ -29,4 +29,4 @@ filling_small w = omega (arith, w.fits, room_within w.terms (w.first + w.count))
 
 -- there is a size for each slot
 pub sizes_table : (w : Writer) → w.terms.slots ≤ length (sizes_of (vec_items w.held.records))
-sizes_table w = omega (arith, sizes_long (vec_items w.held.records), w.held.records.ok.0, w.table, w.shape)
+sizes_table w = omega (arith, sizes_long (vec_items w.held.records), w.held.records.ok.0, w.held.table, w.shape)

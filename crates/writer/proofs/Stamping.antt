@@ -1,12 +1,11 @@
 -- A stamp, and what follows it. Assumes nothing.
-use Rattle.std.proofs.Common.{◌≡◌, ℕ, ◌≤◌, Bool, true, false, List, [], ◌∷◌, length, Some, None, Ok, Option, Result, ap, ◌∙◌, subst, arith}
+use Rattle.std.proofs.Common.{◌≡◌, ℕ, Bool, true, false, List, Some, None, Ok, Option, Result, ap, ◌∙◌, subst, arith}
 use Rattle.proto.specs.declared.datanode.Datanode.{Datanode}
 use Rattle.proto.specs.declared.token.Token.{Token}
 use Rattle.proto.specs.Messages.{held}
 use Rattle.proto.specs.Rules.{is_token}
 use Rattle.namenode.specs.Entries.{Entry, Ask, Offer}
 use Rattle.pipeline.specs.Adding.{Line}
-use Rattle.pipeline.specs.Survivors.{survivors}
 use Rattle.writer.specs.declared.recover.Recovered.{Recovered}
 use Rattle.writer.specs.declared.recovery.Stamped.{Stamped}
 use Rattle.writer.specs.declared.refusal.Refusal.{Refusal}
@@ -14,12 +13,6 @@ use Rattle.writer.specs.Recovering as recovering
 use Rattle.writer.specs.Recovering.{Site, Builds, Tokened, AsksStamp}
 use Rattle.writer.specs.Stages.{TokenAs, StampAs, Stamps}
 use Rattle.writer.specs.Views.{View}
-
-pub survivors_few : (fs : List Bool) (ns : List Datanode) → length (survivors fs ns) ≤ length ns
-survivors_few [] ns = omega arith
-survivors_few (f ∷ fs) [] = omega arith
-survivors_few (true ∷ fs) (n ∷ ns) = omega (arith, survivors_few fs ns)
-survivors_few (false ∷ fs) (n ∷ ns) = omega (arith, survivors_few fs ns)
 
 module _ {L N : Type 0} (sets : L → Datanode → List ℕ → ℕ → Option (List ℕ) → L → Type 0) (puts : L → List ℕ → Bool → L → Type 0) (transfers : L → Datanode → List ℕ → Option (List ℕ) → L → Type 0)
     (lists : N → Ask → Option Offer → N → Type 0) (stamps : N → ℕ → Option (ℕ × List ℕ) → N → Type 0) (updates : N → Entry → Bool → N → Type 0)

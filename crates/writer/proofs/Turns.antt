@@ -25,9 +25,6 @@ pour_some v n e = ltb-true 0 (amount v n) (private_pour (full v) (ltb (v.count +
 pub hand_full : (v : View) (n : ℕ) → turn_of v n ≡ hand → room_at v.terms (next_of v) ≤ v.filling
 hand_full v n e = leb-true _ _ (private_hand (full v) (ltb (v.count + 1) v.terms.slots) (ltb 0 (amount v n)) e).0
 
-pub hand_room : (v : View) (n : ℕ) → turn_of v n ≡ hand → v.count + 1 < v.terms.slots
-hand_room v n e = ltb-true _ _ (private_hand (full v) (ltb (v.count + 1) v.terms.slots) (ltb 0 (amount v n)) e).1
-
 -- where `taken` bytes are taken, what is made of the rest is made of the whole
 abbrev pub Continues : {L : Type 0} → (L → List ℕ → Bool → L → Type 0) → Place L → List ℕ → ℕ → Place L → Type 0
 Continues {L} puts p bytes taken q = (n : ℕ) (lost : Bool) (r : Place L) → Writes puts q (drop taken bytes) n lost r → Writes puts p bytes (taken + n) lost r

@@ -3,9 +3,8 @@ use Rattle.std.specs.Prelude.{◌≡◌, ℕ, Bool, cond, ◌&&◌, List, Some, 
 use Rattle.ack.specs.declared.ack.Verdict.{Verdict}
 use Rattle.ack.specs.declared.ack.Verdict.TheVariants as verdict
 use Rattle.chain.specs.Acts.{Came}
-use Rattle.sending.specs.declared.ask.Heard.{Heard}
-use Rattle.sending.specs.declared.ask.Heard.TheVariants as heard
-use Rattle.sending.specs.Asking.{heard_in, answer_over}
+use Rattle.sending.specs.declared.ask.AskError.TheVariants as ask
+use Rattle.sending.specs.Asking.{Heard, heard_in, answer_over}
 use Rattle.writer.specs.declared.cause.Cause.TheVariants.{Link, Replies, Decoding}
 use Rattle.writer.specs.declared.heed.Decision.{Decision}
 use Rattle.writer.specs.declared.heed.Decision.TheVariants as decision
@@ -35,10 +34,10 @@ on_verdict v verdict.UnknownSeqno = decision.Close refusal.UnknownSeqno
 on_verdict v (verdict.Packet n) = on_packet v n
 
 abbrev pub on_heard : View → Heard → Decision
-on_heard v heard.Quiet = decision.Wait
-on_heard v heard.Lost = decision.Break Link
-on_heard v (heard.Undecodable e) = decision.Break (Decoding e)
-on_heard v (heard.Judged x) = on_verdict v x
+on_heard v (Ok None) = decision.Wait
+on_heard v (Ok (Some x)) = on_verdict v x
+on_heard v (Err ask.Lost) = decision.Break Link
+on_heard v (Err (ask.Undecodable e)) = decision.Break (Decoding e)
 
 -- only a whole pipeline is listened to
 abbrev pub decided : View → Heard → Decision

@@ -14,10 +14,9 @@ use Rattle.proto.specs.Rules.{is_token}
 use Rattle.request.specs.declared.stage.Stage.{Stage}
 use Rattle.request.specs.declared.stage.Stage.TheVariants.{SetupAppend, SetupCreate}
 use Rattle.namenode.specs.Entries.{Row}
-use Rattle.pipeline.specs.declared.reply.Reply.{Reply}
-use Rattle.pipeline.specs.declared.reply.Reply.TheVariants.{Good, Lost, Undecodable, Status}
 use Rattle.pipeline.specs.declared.set_up.Setting.{Setting}
 use Rattle.pipeline.specs.Offers.{Rows, rows_in_form}
+use Rattle.pipeline.specs.Replies.{Reply}
 use Rattle.pipeline.specs.SetUps.{SetsUp}
 use Rattle.writer.specs.declared.admit.Lens.{Lens}
 use Rattle.writer.specs.declared.opening.Opening.{Opening}
@@ -120,10 +119,8 @@ abbrev pub block_for : Opening → Terms → ExtendedBlock
 block_for o t = record { pool_id = t.pool_id; block_id = o.block_id; generation_stamp = o.stamp; num_bytes = o.initial_len }
 
 abbrev pub Started : Reply → Opening → Lens → Token → List Datanode → Option Refusal → View → Type 0
-Started Good o l token nodes r w = (r ≡ None) × Fresh o l token nodes w
-Started Lost o l token nodes r w = (r ≡ Some (refusal.SetUp Lost)) × Shut w
-Started Undecodable o l token nodes r w = (r ≡ Some (refusal.SetUp Undecodable)) × Shut w
-Started Status o l token nodes r w = (r ≡ Some (refusal.SetUp Status)) × Shut w
+Started (Ok _) o l token nodes r w = (r ≡ None) × Fresh o l token nodes w
+Started (Err why) o l token nodes r w = (r ≡ Some (refusal.SetUp why)) × Shut w
 
 -- the pipeline is set up with minimum and maximum the initial length
 pub record Starts {L : Type 0} (sets : L → Datanode → List ℕ → ℕ → Option (List ℕ) → L → Type 0) (o : Opening) (l : Lens) (a : L) (request answer : List ℕ) (r : Option Refusal) (w : View) (b : L) (request' answer' : List ℕ) : Type 0 where

@@ -9,10 +9,9 @@ use Rattle.request.specs.declared.stage.Stage.TheVariants.{SetupStreamingRecover
 use Rattle.replace.specs.Decision.{should_replace}
 use Rattle.namenode.specs.Entries.{Entry, Ask, Offer, entry_for}
 use Rattle.pipeline.specs.declared.add_datanode.NoDatanode.{NoDatanode}
-use Rattle.pipeline.specs.declared.reply.Reply.{Reply}
-use Rattle.pipeline.specs.declared.reply.Reply.TheVariants.{Good, Lost, Undecodable, Status}
 use Rattle.pipeline.specs.declared.set_up.Setting.{Setting}
 use Rattle.pipeline.specs.Adding.{Line, Added, Adds}
+use Rattle.pipeline.specs.Replies.{Reply}
 use Rattle.pipeline.specs.SetUps.{SetsUp}
 use Rattle.pipeline.specs.Survivors.{survivors, failed_of}
 use Rattle.writer.specs.declared.cause.Cause.TheVariants.{Put}
@@ -145,10 +144,8 @@ module _ {L N : Type 0} (sets : L → Datanode → List ℕ → ℕ → Option (
 
   -- what follows a response to the set up
   abbrev pub Answered : Reply → View → List ℕ → ℕ → Option (ℕ × ℕ) → List Datanode → ℕ → Token → List ℕ → L → N → Result Recovered Refusal → View → Site L N → Type 0
-  Answered Good v store time choice chain stamp token frame a n r w t = Resumes v store time choice chain stamp token frame a n r w t
-  Answered Lost v store time choice chain stamp token frame a n r w t = Ended (refusal.Recovery Lost) v r w × (t.frame ≡ frame) × (t.link ≡ a) × (t.namenode ≡ n)
-  Answered Undecodable v store time choice chain stamp token frame a n r w t = Ended (refusal.Recovery Undecodable) v r w × (t.frame ≡ frame) × (t.link ≡ a) × (t.namenode ≡ n)
-  Answered Status v store time choice chain stamp token frame a n r w t = Ended (refusal.Recovery Status) v r w × (t.frame ≡ frame) × (t.link ≡ a) × (t.namenode ≡ n)
+  Answered (Ok _) v store time choice chain stamp token frame a n r w t = Resumes v store time choice chain stamp token frame a n r w t
+  Answered (Err why) v store time choice chain stamp token frame a n r w t = Ended (refusal.Recovery why) v r w × (t.frame ≡ frame) × (t.link ≡ a) × (t.namenode ≡ n)
 
   -- the pipeline is set up with the old stamp in the block and the new one beside it
   pub record Builds (v : View) (store : List ℕ) (time : ℕ) (choice : Option (ℕ × ℕ)) (chain : List Datanode) (stamp : ℕ) (octets frame : List ℕ) (s : Line L) (n : N) (r : Result Recovered Refusal) (w : View) (t : Site L N) : Type 0 where

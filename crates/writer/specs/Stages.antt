@@ -6,9 +6,8 @@ use Rattle.proto.specs.Messages.{held}
 use Rattle.proto.specs.Rules.{is_token}
 use Rattle.request.specs.declared.stage.Stage.TheVariants.{SetupStreamingRecovery}
 use Rattle.namenode.specs.Entries.{Entry, entry_for}
-use Rattle.pipeline.specs.declared.reply.Reply.{Reply}
-use Rattle.pipeline.specs.declared.reply.Reply.TheVariants.{Good, Lost, Undecodable, Status}
 use Rattle.pipeline.specs.declared.set_up.Setting.{Setting}
+use Rattle.pipeline.specs.Replies.{Reply}
 use Rattle.pipeline.specs.SetUps.{SetsUp}
 use Rattle.writer.specs.declared.refusal.Refusal.{Refusal}
 use Rattle.writer.specs.declared.refusal.Refusal.TheVariants as refusal
@@ -36,10 +35,8 @@ pub record Stamps {N : Type 0} (stamps : N → ℕ → Option (ℕ × List ℕ) 
   pub is : StampAs came least r
 
 abbrev pub built_on : Reply → ℕ → ℕ → Result SetUp Refusal
-built_on Good least stamp = Ok (record { least = least; stamp = stamp })
-built_on Lost least stamp = Err (refusal.Recovery Lost)
-built_on Undecodable least stamp = Err (refusal.Recovery Undecodable)
-built_on Status least stamp = Err (refusal.Recovery Status)
+built_on (Ok _) least stamp = Ok (record { least = least; stamp = stamp })
+built_on (Err why) least stamp = Err (refusal.Recovery why)
 
 -- from stamped to set up
 pub record SetsUpOn {L : Type 0} (sets : L → Datanode → List ℕ → ℕ → Option (List ℕ) → L → Type 0) (v : View) (token : Token) (chain : List Datanode) (least stamp : ℕ) (a : L) (request request' answer answer' : List ℕ) (r : Result SetUp Refusal) (b : L) : Type 0 where

@@ -1,7 +1,8 @@
 //! What every call looks at first: the writer's state, and the lengths of the four buffers.
 ghost use Rattle.std.specs.Prelude.{◌≡◌};
+ghost use Rattle.std.specs.Result.{result_err};
 ghost use Rattle.writer.specs.Views.{view_of};
-ghost use Rattle.writer.specs.Admits.{by_state, by_room, refusal_for};
+ghost use Rattle.writer.specs.Admits.{by_state, by_room, refusal_for, lens_of};
 
 use crate::refusal::Refusal;
 use crate::state::Writer;
@@ -28,51 +29,62 @@ pub struct Lens {
     pub answer: usize,
 }
 
+impl Lens {
+    pub(crate) fn of(store: &[u8], frame: &[u8], request: &[u8], answer: &[u8]) -> Lens
+        ensures { result ≡ lens_of store.now frame.now request.now answer.now }
+    {
+        Lens {
+            store: store.len(),
+            frame: frame.len(),
+            request: request.len(),
+            answer: answer.len(),
+        }
+    }
+}
+
 /// So many octets hold every request and every response that is asked for.
 pub const MESSAGE_LEN: usize = 4096;
 
 // Whether the call fits the writer's state.
-fn by_state(state: State, call: Call) -> Option<Refusal>
-    ensures { result ≡ by_state state call }
+fn by_state(state: State, call: Call) -> Result<(), Refusal>
+    ensures { result_err result ≡ by_state state call }
 {
     match (state, call) {
-        (State::Closed, _) => Some(Refusal::Closed),
-        (State::Complete, _) => Some(Refusal::Complete),
-        (State::Streaming | State::Finishing, Call::Recover) => Some(Refusal::Whole),
-        (State::Broken { .. }, Call::Recover) => None,
-        (State::Broken { .. }, _) => Some(Refusal::Broken),
-        (State::Finishing, Call::Heed) => None,
-        (State::Finishing, _) => Some(Refusal::Finished),
-        (State::Streaming, _) => None,
+        (State::Closed, _) => Err(Refusal::Closed),
+        (State::Complete, _) => Err(Refusal::Complete),
+        (State::Streaming | State::Finishing, Call::Recover) => Err(Refusal::Whole),
+        (State::Broken { .. }, Call::Recover) => Ok(()),
+        (State::Broken { .. }, _) => Err(Refusal::Broken),
+        (State::Finishing, Call::Heed) => Ok(()),
+        (State::Finishing, _) => Err(Refusal::Finished),
+        (State::Streaming, _) => Ok(()),
     }
 }
 
 impl Terms {
     // Whether the store is the one that the block was opened with, and the other buffers suffice.
-    fn by_room(&self, lens: Lens) -> Option<Refusal>
-        ensures { result ≡ by_room self.now lens }
+    fn by_room(&self, lens: Lens) -> Result<(), Refusal>
+        ensures { result_err result ≡ by_room self.now lens }
     {
         if lens.store != self.store_len {
-            return Some(Refusal::Store);
+            return Err(Refusal::Store);
         }
         if lens.frame < self.size.frame_capacity()
             || lens.request < MESSAGE_LEN
             || lens.answer < MESSAGE_LEN
         {
-            return Some(Refusal::Buffer);
+            return Err(Refusal::Buffer);
         }
-        None
+        Ok(())
     }
 }
 
 impl Writer {
-    /// The refusal of a call that is not to be acted on.
-    pub(crate) fn admit(&self, call: Call, lens: Lens) -> Option<Refusal>
-        ensures { result ≡ refusal_for (view_of self.now) call lens }
+    /// Whether a call is to be acted on.
+    pub(crate) fn admit(&self, call: Call, lens: Lens) -> Result<(), Refusal>
+        ensures { result_err result ≡ refusal_for (view_of self.now) call lens }
     {
-        if let Some(refusal) = by_state(self.state, call) {
-            return Some(refusal);
-        }
+        by_state(self.state, call)?;
         self.terms.by_room(lens)
     }
 }

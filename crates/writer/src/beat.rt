@@ -12,7 +12,7 @@ use crate::cause::Cause;
 use crate::hand::bytes_at;
 use crate::refusal::Refusal;
 use crate::state::Writer;
-use chain::link::Link;
+use chain::link::{Link, LinkLost};
 use packet::frame::WritePacket;
 use packet::header::HEART_BEAT_SEQNO;
 use packet::size::PacketSize;
@@ -58,13 +58,15 @@ impl Writer {
             last: false,
             data: bytes_at(store, 0, 0),
         };
-        let sent = put_packet(link, packet, self.terms.size.chunk_size(), frame);
+        let put = put_packet(link, packet, self.terms.size.chunk_size(), frame);
         self.beaten = time;
-        if sent {
-            return Ok(Beat::Put);
+        match put {
+            Ok(()) => Ok(Beat::Put),
+            Err(LinkLost) => {
+                self.break_by(Cause::Put(HEART_BEAT_SEQNO));
+                Ok(Beat::Lost)
+            }
         }
-        self.break_by(Cause::Put(HEART_BEAT_SEQNO));
-        Ok(Beat::Lost)
     }
 
     /// Puts a heartbeat if it is time, which is told in seconds.
@@ -79,16 +81,8 @@ impl Writer {
     ) -> Result<Beat, Refusal>
         ensures { Beats L.Link.puts (refusal_for (view_of self.old) call.Beat (lens_of store.now frame.old request.now answer.now)) (record { view = view_of self.old; store = store.now; frame = frame.old; link = link.old }) time result (record { view = view_of self.new; store = store.now; frame = frame.new; link = link.new }) }
     {
-        let lens = Lens {
-            store: store.len(),
-            frame: frame.len(),
-            request: request.len(),
-            answer: answer.len(),
-        };
-        match self.admit(Call::Beat, lens) {
-            Some(refusal) => Err(refusal),
-            None => self.beat_if_due(link, store, frame, time),
-        }
+        self.admit(Call::Beat, Lens::of(store, frame, request, answer))?;
+        self.beat_if_due(link, store, frame, time)
     }
 
     fn beat_if_due<L: Link>(

@@ -1,5 +1,6 @@
 //! The end of a block.
 ghost use Rattle.std.specs.Prelude.{◌≡◌, ◌+◌, ◌<◌, ◌≤◌, cond, not, length, ◌==◌};
+ghost use Rattle.std.specs.Result.{result_err};
 ghost use Rattle.writer.specs.declared.admit.Call.TheVariants as call;
 ghost use Rattle.writer.specs.declared.state.kind.State.TheVariants.{Streaming};
 ghost use Rattle.writer.specs.Admits.{refusal_for, lens_of};
@@ -12,7 +13,7 @@ use crate::cause::Cause;
 use crate::refusal::Refusal;
 use crate::state::Writer;
 use crate::state::kind::State;
-use chain::link::Link;
+use chain::link::{Link, LinkLost};
 
 /// What the end of a block came to.
 #[derive(Clone, Copy, Debug, PartialEq, Eq)]
@@ -22,18 +23,16 @@ pub struct Finished {
 }
 
 impl Writer {
-    // The refusal of a finish that is not to be acted on: the closing packets need places too.
-    fn admit_finish(&self, lens: Lens) -> Option<Refusal>
-        ensures { result ≡ finish_refusal (view_of self.now) lens }
+    // Whether a finish is to be acted on: the closing packets need places too.
+    fn admit_finish(&self, lens: Lens) -> Result<(), Refusal>
+        ensures { result_err result ≡ finish_refusal (view_of self.now) lens }
     {
-        if let Some(refusal) = self.admit(Call::Finish, lens) {
-            return Some(refusal);
-        }
+        self.admit(Call::Finish, lens)?;
         let packets = if self.filling == 0 { 1 } else { 2 };
         if self.count + packets >= self.terms.slots {
-            return Some(Refusal::Places);
+            return Err(Refusal::Places);
         }
-        None
+        Ok(())
     }
 
     // Hands over the empty last packet.
@@ -46,8 +45,10 @@ impl Writer {
         ensures { Ends L.Link.puts (record { view = view_of self.old; store = store.now; frame = frame.old; link = link.old }) result (record { view = view_of self.new; store = store.now; frame = frame.new; link = link.new }) }
     {
         self.state = State::Finishing;
-        let sent = self.hand_over(link, store, frame);
-        Finished { put_lost: !sent }
+        let put = self.hand_over(link, store, frame);
+        Finished {
+            put_lost: put.is_err(),
+        }
     }
 
     // Holds the last packet, which is not sent, since the one before it was lost.
@@ -74,11 +75,13 @@ impl Writer {
         ensures { Empties L.Link.puts (record { view = view_of self.old; store = store.now; frame = frame.old; link = link.old }) result (record { view = view_of self.new; store = store.now; frame = frame.new; link = link.new }) }
     {
         let seqno = self.first + self.count as u64;
-        if self.hand_over(link, store, frame) {
-            return self.end(link, store, frame);
+        match self.hand_over(link, store, frame) {
+            Ok(()) => self.end(link, store, frame),
+            Err(LinkLost) => {
+                self.hold_last(seqno);
+                Finished { put_lost: true }
+            }
         }
-        self.hold_last(seqno);
-        Finished { put_lost: true }
     }
 
     fn end_block<L: Link>(&mut self, link: &mut L, store: &[u8], frame: &mut [u8]) -> Finished
@@ -105,15 +108,7 @@ impl Writer {
     ) -> Result<Finished, Refusal>
         ensures { Finishes L.Link.puts (finish_refusal (view_of self.old) (lens_of store.now frame.old request.now answer.now)) (record { view = view_of self.old; store = store.now; frame = frame.old; link = link.old }) result (record { view = view_of self.new; store = store.now; frame = frame.new; link = link.new }) }
     {
-        let lens = Lens {
-            store: store.len(),
-            frame: frame.len(),
-            request: request.len(),
-            answer: answer.len(),
-        };
-        match self.admit_finish(lens) {
-            Some(refusal) => Err(refusal),
-            None => Ok(self.end_block(link, store, frame)),
-        }
+        self.admit_finish(Lens::of(store, frame, request, answer))?;
+        Ok(self.end_block(link, store, frame))
     }
 }

@@ -1,5 +1,5 @@
 //! A packet handed over: held, and its frame put.
-ghost use Rattle.std.specs.Prelude.{◌≡◌, ◌+◌, ◌<◌, ◌≤◌, length, take, drop, if◌then◌else◌};
+ghost use Rattle.std.specs.Prelude.{◌≡◌, ◌+◌, ◌<◌, ◌≤◌, length, take, drop, if◌then◌else◌, is_ok};
 ghost use Rattle.packet.specs.Frame.{octets_of, over};
 ghost use Rattle.writer.specs.declared.cause.Cause.TheVariants.{Put};
 ghost use Rattle.writer.specs.Sizes.{frame_room};
@@ -9,7 +9,7 @@ ghost use Rattle.writer.specs.Views.{view_of, next_of, with_held, broken_by, out
 use crate::cause::Cause;
 use crate::state::Writer;
 use crate::state::kind::State;
-use chain::link::Link;
+use chain::link::{Link, LinkLost};
 use packet::frame::WritePacket;
 use packet::size::PacketSize;
 use sending::put::put_packet;
@@ -46,10 +46,15 @@ impl Writer {
     }
 
     // Puts the frame of the packet being filled.
-    fn put_outgoing<L: Link>(&self, link: &mut L, store: &[u8], frame: &mut [u8]) -> bool
+    fn put_outgoing<L: Link>(
+        &self,
+        link: &mut L,
+        store: &[u8],
+        frame: &mut [u8],
+    ) -> Result<(), LinkLost>
         requires store_len { length store.now ≡ self.now.terms.store_len }
         requires terms_in_bounds { frame_room self.now.terms ≤ length frame.old }
-        ensures put { L.Link.puts link.old (octets_of (outgoing (view_of self.now) store.now)) result link.new }
+        ensures put { L.Link.puts link.old (octets_of (outgoing (view_of self.now) store.now)) (is_ok result) link.new }
         ensures frame { frame.new ≡ over (outgoing (view_of self.now) store.now) frame.old }
     {
         let packet = WritePacket {
@@ -61,30 +66,29 @@ impl Writer {
         put_packet(link, packet, self.terms.size.chunk_size(), frame)
     }
 
-    /// Hands the packet being filled over: it is held, the next one begins, and its frame is put. `false` says that the frame was lost, and the
-    /// pipeline is broken.
+    /// Hands the packet being filled over: it is held, the next one begins, and its frame is put. Where the frame was lost the pipeline is
+    /// broken.
     pub(crate) fn hand_over<L: Link>(
         &mut self,
         link: &mut L,
         store: &[u8],
         frame: &mut [u8],
-    ) -> bool
+    ) -> Result<(), LinkLost>
         requires store_len { length store.now ≡ self.old.terms.store_len }
         requires terms_in_bounds { frame_room self.old.terms ≤ length frame.old }
         requires count_bound { self.old.count + 1 < self.old.terms.slots }
         requires initial_len_bound { self.old.first + self.old.count + 1 + self.old.terms.initial_len ≤ self.old.len + last_ones self.old.state }
         requires state_value { last_ones self.old.state ≡ (if ended self.old.state then 1 else 0) }
-        ensures put { L.Link.puts link.old (octets_of (outgoing (view_of self.old) store.now)) result link.new }
+        ensures put { L.Link.puts link.old (octets_of (outgoing (view_of self.old) store.now)) (is_ok result) link.new }
         ensures frame { frame.new ≡ over (outgoing (view_of self.old) store.now) frame.old }
-        ensures view { view_of self.new ≡ (if result then with_held (view_of self.old) else broken_by (Put (next_of (view_of self.old))) (with_held (view_of self.old))) }
+        ensures view { view_of self.new ≡ (if is_ok result then with_held (view_of self.old) else broken_by (Put (next_of (view_of self.old))) (with_held (view_of self.old))) }
     {
         let seqno = self.first + self.count as u64;
-        let sent = self.put_outgoing(link, store, frame);
+        let put = self.put_outgoing(link, store, frame);
         self.hold();
-        if !sent {
+        if put.is_err() {
             self.break_by(Cause::Put(seqno));
-            return false;
         }
-        true
+        put
     }
 }

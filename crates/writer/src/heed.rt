@@ -15,7 +15,7 @@ use crate::state::kind::State;
 use ack::ack::Verdict;
 use chain::link::Link;
 use held::table::HeldTable;
-use sending::ask::{Heard, ask};
+use sending::ask::{AskError, ask};
 
 /// What an answer, or that none came, means.
 #[derive(Clone, Copy, Debug, PartialEq, Eq)]
@@ -65,28 +65,28 @@ impl Writer {
     }
 
     // What the writer's state and what was heard decide together.
-    fn decide(&self, heard: Heard) -> Decision
+    fn decide(&self, heard: Result<Option<Verdict>, AskError>) -> Decision
         ensures { result ≡ decided (view_of self.now) heard }
     {
         match (self.state, heard) {
-            (State::Streaming, Heard::Judged(Verdict::Packet(seqno))) => {
-                self.on_packet(seqno, false)
-            }
-            (State::Finishing, Heard::Judged(Verdict::Packet(seqno))) => {
+            (State::Streaming, Ok(Some(Verdict::Packet(seqno)))) => { self.on_packet(seqno, false) }
+            (State::Finishing, Ok(Some(Verdict::Packet(seqno)))) => {
                 self.on_packet(seqno, self.count == 1)
             }
-            (State::Streaming | State::Finishing, Heard::Quiet) => Decision::Wait,
-            (State::Streaming | State::Finishing, Heard::Lost) => Decision::Break(Cause::Link),
-            (State::Streaming | State::Finishing, Heard::Undecodable(error)) => {
+            (State::Streaming | State::Finishing, Ok(None)) => Decision::Wait,
+            (State::Streaming | State::Finishing, Err(AskError::Lost)) => Decision::Break(
+                Cause::Link,
+            ),
+            (State::Streaming | State::Finishing, Err(AskError::Undecodable(error))) => {
                 Decision::Break(Cause::Decoding(error))
             }
-            (State::Streaming | State::Finishing, Heard::Judged(Verdict::Failed(nodes))) => {
+            (State::Streaming | State::Finishing, Ok(Some(Verdict::Failed(nodes)))) => {
                 Decision::Break(Cause::Replies(nodes))
             }
-            (State::Streaming | State::Finishing, Heard::Judged(Verdict::HeartBeat)) => {
+            (State::Streaming | State::Finishing, Ok(Some(Verdict::HeartBeat))) => {
                 Decision::Beat
             }
-            (State::Streaming | State::Finishing, Heard::Judged(Verdict::UnknownSeqno)) => {
+            (State::Streaming | State::Finishing, Ok(Some(Verdict::UnknownSeqno))) => {
                 Decision::Close(Refusal::UnknownSeqno)
             }
             (State::Broken { .. } | State::Complete | State::Closed, _) => Decision::Wait,
@@ -125,7 +125,7 @@ impl Writer {
     }
 
     // Does what was decided.
-    fn hear(&mut self, heard: Heard) -> Result<Heeded, Refusal>
+    fn hear(&mut self, heard: Result<Option<Verdict>, AskError>) -> Result<Heeded, Refusal>
         requires { listens self.old.state ≡ true }
         ensures result { result ≡ answer_of (decided (view_of self.old) heard) }
         ensures view { view_of self.new ≡ after (view_of self.old) (decided (view_of self.old) heard) }
@@ -169,15 +169,7 @@ impl Writer {
     ) -> Result<Heeded, Refusal>
         ensures { Heeds L.Link.nexts (refusal_for (view_of self.old) call.Heed (lens_of store.now frame.now request.now answer.old)) (view_of self.old) link.old answer.old result (view_of self.new) link.new answer.new }
     {
-        let lens = Lens {
-            store: store.len(),
-            frame: frame.len(),
-            request: request.len(),
-            answer: answer.len(),
-        };
-        match self.admit(Call::Heed, lens) {
-            Some(refusal) => Err(refusal),
-            None => self.ask_link(link, answer),
-        }
+        self.admit(Call::Heed, Lens::of(store, frame, request, answer))?;
+        self.ask_link(link, answer)
     }
 }

@@ -19,7 +19,6 @@ use held::table::SLOTS;
 use packet::size::PacketSize;
 use packet::size::settings::SizeError;
 use pipeline::nodes::NodeTable;
-use pipeline::reply::Reply;
 use pipeline::set_up::{Setting, set_up};
 use proto::block::{ClientOperationHeader, ExtendedBlock};
 use proto::fixed::Fixed;
@@ -36,13 +35,14 @@ pub struct Forms {
     pub(crate) client_name: Fixed<64>,
 }
 
-// Which of the sizes is refused.
-fn size_refusal(error: SizeError) -> Refusal
-    ensures { result ≡ size_refusal error }
-{
-    match error {
-        SizeError::Chunk => Refusal::ChunkSize,
-        SizeError::Packet => Refusal::PacketSize,
+impl From<SizeError> for Refusal {
+    ghost from_gives = { λ error refusal. refusal ≡ size_refusal error };
+
+    fn from(error: SizeError) -> Refusal {
+        match error {
+            SizeError::Chunk => Refusal::ChunkSize,
+            SizeError::Packet => Refusal::PacketSize,
+        }
     }
 }
 
@@ -83,25 +83,15 @@ impl Tables {
         requires { (length opening.infos.now ≤ 8) × (length opening.storage_ids.now ≡ length opening.infos.now) × (length opening.storage_types.now ≡ length opening.infos.now) }
         ensures { Formed opening.entry self.new.nodes.rows.items result }
     {
-        if !opening.read_nodes(&mut self.nodes) {
-            return None;
-        }
-        let Some(token) = Token::new(opening.token) else {
-            return None;
-        };
+        opening.read_nodes(&mut self.nodes)?;
+        let token = Token::new(opening.token)?;
         if !opening.has_texts() {
             return None;
         }
-        let Some(pool_id) = Fixed::copy_of(opening.pool_id) else {
-            return None;
-        };
-        let Some(client_name) = Fixed::copy_of(opening.client_name) else {
-            return None;
-        };
         Some(Forms {
             token,
-            pool_id,
-            client_name,
+            pool_id: Fixed::copy_of(opening.pool_id)?,
+            client_name: Fixed::copy_of(opening.client_name)?,
         })
     }
 
@@ -109,10 +99,8 @@ impl Tables {
     fn settle(&mut self, opening: Opening<'_>, lens: Lens) -> Result<(Terms, Token), Refusal>
         ensures { Settled opening.entry lens self.new.nodes.rows.items result }
     {
-        match PacketSize::new(opening.chunk_size, opening.packet_size) {
-            Ok(size) => self.settle_sized(opening, size, lens),
-            Err(error) => Err(size_refusal(error)),
-        }
+        let size = PacketSize::new(opening.chunk_size, opening.packet_size)?;
+        self.settle_sized(opening, size, lens)
     }
 
     fn settle_sized(
@@ -124,18 +112,10 @@ impl Tables {
         requires { (size.chunk ≡ opening.chunk_size) × (size.packet ≡ opening.packet_size) }
         ensures { SettledSized opening.entry lens self.new.nodes.rows.items result }
     {
-        if let Some(refusal) = opening.by_length() {
-            return Err(refusal);
-        }
-        if let Some(refusal) = opening.by_count() {
-            return Err(refusal);
-        }
-        let Some(forms) = self.read_forms(opening) else {
-            return Err(Refusal::Form);
-        };
-        if let Some(refusal) = opening.by_buffers(size, lens) {
-            return Err(refusal);
-        }
+        opening.by_length()?;
+        opening.by_count()?;
+        let forms = self.read_forms(opening).ok_or(Refusal::Form)?;
+        opening.by_buffers(size, lens)?;
         Ok((terms_for(opening, size, forms, lens), forms.token))
     }
 }

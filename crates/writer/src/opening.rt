@@ -1,5 +1,6 @@
 //! What a block is opened with, and what is refused of it.
 ghost use Rattle.std.specs.Prelude.{◌≡◌};
+ghost use Rattle.std.specs.Result.{result_err};
 ghost use Rattle.writer.specs.Opening.{by_length, by_count, by_buffers, by_texts};
 
 use crate::admit::{Lens, MESSAGE_LEN};
@@ -40,30 +41,30 @@ pub struct Opening<'a> {
 
 impl<'a> Opening<'a> {
     // Whether the block has room for what it has, and its places are numbers.
-    pub(crate) fn by_length(self) -> Option<Refusal>
-        ensures { result ≡ by_length self.entry }
+    pub(crate) fn by_length(self) -> Result<(), Refusal>
+        ensures { result_err result ≡ by_length self.entry }
     {
         if self.block_size < self.initial_len {
-            return Some(Refusal::Length);
+            return Err(Refusal::Length);
         }
         if self.block_size >= BLOCK_LIMIT {
-            return Some(Refusal::Length);
+            return Err(Refusal::Length);
         }
-        None
+        Ok(())
     }
 
     // Whether there are one to eight datanodes, and as many storages.
-    pub(crate) fn by_count(self) -> Option<Refusal>
-        ensures { result ≡ by_count self.entry }
+    pub(crate) fn by_count(self) -> Result<(), Refusal>
+        ensures { result_err result ≡ by_count self.entry }
     {
         let count = self.infos.len();
         if count < 1 || count > 8 {
-            return Some(Refusal::Nodes);
+            return Err(Refusal::Nodes);
         }
         if self.storage_ids.len() != count || self.storage_types.len() != count {
-            return Some(Refusal::Nodes);
+            return Err(Refusal::Nodes);
         }
-        None
+        Ok(())
     }
 
     // Whether the path and the two names are texts.
@@ -74,19 +75,19 @@ impl<'a> Opening<'a> {
     }
 
     // Whether the store has three slots at least, and the other buffers suffice.
-    pub(crate) fn by_buffers(self, size: PacketSize, lens: Lens) -> Option<Refusal>
+    pub(crate) fn by_buffers(self, size: PacketSize, lens: Lens) -> Result<(), Refusal>
         requires { (size.chunk ≡ self.chunk_size) × (size.packet ≡ self.packet_size) }
-        ensures { result ≡ by_buffers self.entry lens }
+        ensures { result_err result ≡ by_buffers self.entry lens }
     {
         if lens.store < 3 * size.capacity() {
-            return Some(Refusal::Store);
+            return Err(Refusal::Store);
         }
         if lens.frame < size.frame_capacity()
             || lens.request < MESSAGE_LEN
             || lens.answer < MESSAGE_LEN
         {
-            return Some(Refusal::Buffer);
+            return Err(Refusal::Buffer);
         }
-        None
+        Ok(())
     }
 }

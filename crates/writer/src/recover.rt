@@ -55,7 +55,6 @@ impl Writer {
     // Goes on with the chosen pipeline, row by row in the table, the new stamp and its token.
     fn resume(&mut self, lost: Option<u64>, stamp: u64, token: Token, time: u64)
         requires is_broken { IsBrokenState self.old.state }
-        requires rows_len_bound { length self.old.chosen.rows.items ≤ 8 }
         ensures { view_of self.new ≡ restored lost stamp token self.old.chosen.rows.items time (view_of self.old) }
     {
         let finished = self.state.has_ended();
@@ -82,7 +81,6 @@ impl Writer {
         requires set_up_value { set_up.least ≡ least_of (view_of self.old) }
         requires store_len { length store.now ≡ self.old.terms.store_len }
         requires terms_in_bounds { frame_room self.old.terms ≤ length frame.old }
-        requires rows_len_bound { length self.old.chosen.rows.items ≤ 8 }
         ensures { (request answer : List ℕ) → Resumes L.Link.sets L.Link.puts L.Link.transfers N.NamenodeProtocol.lists N.NamenodeProtocol.stamps N.NamenodeProtocol.updates (view_of self.old) store.now time choice self.old.chosen.rows.items set_up.stamp token frame.old link.entry.now namenode.old result (view_of self.new) (record { link = link.exit.now; namenode = namenode.new; frame = frame.new; request = request; answer = answer }) }
     {
         let replayed = set_up.replay(link, self, store, frame);
@@ -125,7 +123,7 @@ impl Writer {
         requires store_len { length store.now ≡ self.old.terms.store_len }
         requires terms_in_bounds { frame_room self.old.terms ≤ length frame.old }
         requires in_bounds { 4096 ≤ length request.old }
-        requires in_bounds_2 { (1 ≤ length self.old.chosen.rows.items) × (length self.old.chosen.rows.items ≤ 8) }
+        requires some_left { 1 ≤ length self.old.chosen.rows.items }
         ensures { (octets : List ℕ) → held token.message ≡ octets → Builds L.Link.sets L.Link.puts L.Link.transfers N.NamenodeProtocol.lists N.NamenodeProtocol.stamps N.NamenodeProtocol.updates (view_of self.old) store.now time choice self.old.chosen.rows.items stamped.stamp octets frame.old (record { link = link.entry.now; request = request.old; answer = answer.old }) namenode.old result (view_of self.new) (record { link = link.exit.now; namenode = namenode.new; frame = frame.new; request = request.new; answer = answer.new }) }
     {
         match stamped.set_up(link, self, &token, request, answer) {
@@ -152,17 +150,14 @@ impl Writer {
         requires store_len { length store.now ≡ self.old.terms.store_len }
         requires terms_in_bounds { frame_room self.old.terms ≤ length frame.old }
         requires in_bounds { 4096 ≤ length request.old }
-        requires in_bounds_2 { (1 ≤ length self.old.chosen.rows.items) × (length self.old.chosen.rows.items ≤ 8) }
+        requires some_left { 1 ≤ length self.old.chosen.rows.items }
         ensures { AsksStamp L.Link.sets L.Link.puts L.Link.transfers N.NamenodeProtocol.lists N.NamenodeProtocol.stamps N.NamenodeProtocol.updates (view_of self.old) store.now time choice self.old.chosen.rows.items frame.old (record { link = link.entry.now; request = request.old; answer = answer.old }) namenode.old result (view_of self.new) (record { link = link.exit.now; namenode = namenode.new; frame = frame.new; request = request.new; answer = answer.new }) }
     {
         let counted = Counted::of(self);
         match counted.stamp(namenode, self.len) {
-            Ok(given) => {
-                let (stamped, token) = given;
-                self.build(
-                    stamped, token, choice, link, namenode, store, frame, request, answer, time,
-                )
-            }
+            Ok((stamped, token)) => self.build(
+                stamped, token, choice, link, namenode, store, frame, request, answer, time,
+            ),
             Err(refusal) => Err(self.close_by(refusal)),
         }
     }
@@ -184,7 +179,7 @@ impl Writer {
         requires in_bounds { 4096 ≤ length request.old }
         requires rows_value { self.old.chosen.rows.items ≡ left_of (view_of self.old) }
         requires rows_value_2 { self.old.gone.rows.items ≡ gone_of (view_of self.old) }
-        requires in_bounds_2 { (1 ≤ length self.old.chosen.rows.items) × (length self.old.chosen.rows.items ≤ 8) }
+        requires some_left { 1 ≤ length self.old.chosen.rows.items }
         ensures { Rebuilds L.Link.sets L.Link.puts L.Link.transfers N.NamenodeProtocol.lists N.NamenodeProtocol.stamps N.NamenodeProtocol.updates (view_of self.old) store.now time (record { link = link.entry.now; namenode = namenode.old; frame = frame.old; request = request.old; answer = answer.old }) result (view_of self.new) (record { link = link.exit.now; namenode = namenode.new; frame = frame.new; request = request.new; answer = answer.new }) }
     {
         match self.choose_pipeline(link, namenode, request, answer) {
@@ -210,8 +205,8 @@ impl Writer {
         ensures { Survived L.Link.sets L.Link.puts L.Link.transfers N.NamenodeProtocol.lists N.NamenodeProtocol.stamps N.NamenodeProtocol.updates (beyond (view_of self.old)) (view_of self.old) store.now time (record { link = link.entry.now; namenode = namenode.old; frame = frame.old; request = request.old; answer = answer.old }) result (view_of self.new) (record { link = link.exit.now; namenode = namenode.new; frame = frame.new; request = request.new; answer = answer.new }) }
     {
         match self.survive() {
-            Some(refusal) => Err(self.close_by(refusal)),
-            None => { self.choose_and_rebuild(link, namenode, store, frame, request, answer, time) }
+            Ok(()) => self.choose_and_rebuild(link, namenode, store, frame, request, answer, time),
+            Err(refusal) => Err(self.close_by(refusal)),
         }
     }
 
@@ -228,15 +223,7 @@ impl Writer {
     ) -> Result<Recovered, Refusal>
         ensures { Recovers L.Link.sets L.Link.puts L.Link.transfers N.NamenodeProtocol.lists N.NamenodeProtocol.stamps N.NamenodeProtocol.updates (refusal_for (view_of self.old) call.Recover (lens_of store.now frame.old request.old answer.old)) (view_of self.old) store.now time (record { link = link.entry.now; namenode = namenode.old; frame = frame.old; request = request.old; answer = answer.old }) result (view_of self.new) (record { link = link.exit.now; namenode = namenode.new; frame = frame.new; request = request.new; answer = answer.new }) }
     {
-        let lens = Lens {
-            store: store.len(),
-            frame: frame.len(),
-            request: request.len(),
-            answer: answer.len(),
-        };
-        match self.admit(Call::Recover, lens) {
-            Some(refusal) => Err(refusal),
-            None => self.recover_broken(link, namenode, store, frame, request, answer, time),
-        }
+        self.admit(Call::Recover, Lens::of(store, frame, request, answer))?;
+        self.recover_broken(link, namenode, store, frame, request, answer, time)
     }
 }

@@ -5,7 +5,7 @@ ghost use Rattle.packet.specs.Frame.{octets_of, over};
 ghost use Rattle.held.specs.Slots.{sizes_of, size_at, slot_of, packet_of};
 ghost use Rattle.writer.specs.Closing.{record_of};
 ghost use Rattle.writer.specs.Sizes.{capacity, frame_room};
-ghost use Rattle.writer.specs.Stages.{Stamps, SetsUpOn, ReplaysOn, UpdatesOn, built_on};
+ghost use Rattle.writer.specs.Stages.{Stamps, SetsUpOn, ReplaysOn, UpdatesOn};
 ghost use Rattle.writer.specs.Views.{view_of, chunk_of, least_of};
 
 use crate::hand::bytes_at;
@@ -17,7 +17,6 @@ use namenode::protocol::NamenodeProtocol;
 use packet::frame::WritePacket;
 use packet::size::PacketSize;
 use pipeline::nodes::NodeTable;
-use pipeline::reply::Reply;
 use pipeline::set_up::{Setting, set_up};
 use proto::block::{ClientOperationHeader, ExtendedBlock};
 use proto::datanode::Datanode;
@@ -82,23 +81,11 @@ impl Counted {
         ensures { Stamps N.NamenodeProtocol.stamps self.least len namenode.old result namenode.new }
     {
         let Counted { least } = self;
-        let Some(stamp) = namenode.update_block_for_pipeline(len) else {
-            return Err(Refusal::Stamp);
-        };
-        match Token::new(namenode.stamp_token()) {
-            Some(token) => Ok((Stamped { least, stamp }, token)),
-            None => Err(Refusal::Stamp),
-        }
-    }
-}
-
-// What follows the reply to a set up.
-fn built_on(reply: Reply, least: u64, stamp: u64) -> Result<SetUp, Refusal>
-    ensures { result ≡ built_on reply least stamp }
-{
-    match reply {
-        Reply::Good => Ok(SetUp { least, stamp }),
-        Reply::Lost | Reply::Undecodable | Reply::Status => Err(Refusal::Recovery(reply)),
+        let stamp = namenode
+            .update_block_for_pipeline(len)
+            .map_err(|_| Refusal::Stamp)?;
+        let token = Token::new(namenode.stamp_token()).ok_or(Refusal::Stamp)?;
+        Ok((Stamped { least, stamp }, token))
     }
 }
 
@@ -112,7 +99,7 @@ impl Stamped {
         request: &mut [u8],
         answer: &mut [u8],
     ) -> Result<SetUp, Refusal>
-        requires { (1 ≤ length writer.now.chosen.rows.items) × ((length writer.now.chosen.rows.items ≤ 8) × (4096 ≤ length request.old)) }
+        requires { (1 ≤ length writer.now.chosen.rows.items) × (4096 ≤ length request.old) }
         ensures { SetsUpOn L.Link.sets (view_of writer.now) token.now writer.now.chosen.rows.items self.least self.stamp link.old request.old request.new answer.old answer.new result link.new }
     {
         let Stamped { least, stamp } = self;
@@ -128,8 +115,10 @@ impl Stamped {
             latest_stamp: stamp,
             chunk_size: writer.terms.size.chunk_size(),
         };
-        let reply = set_up(link, writer.chosen.as_slice(), setting, request, answer);
-        built_on(reply, least, stamp)
+        set_up(link, writer.chosen.as_slice(), setting, request, answer).map_err(
+            Refusal::Recovery,
+        )?;
+        Ok(SetUp { least, stamp })
     }
 }
 
@@ -148,9 +137,9 @@ impl Replayed {
             replayed,
             lost,
         } = self;
-        if !namenode.update_pipeline(stamp, len, nodes) {
-            return Err(Refusal::Update);
-        }
+        namenode
+            .update_pipeline(stamp, len, nodes)
+            .map_err(|_| Refusal::Update)?;
         Ok(Replayed {
             stamp,
             replayed,

@@ -3,7 +3,7 @@ ghost use Rattle.std.specs.Prelude.{◌≡◌};
 ghost use Rattle.writer.specs.Refusals.{number_of};
 
 use pipeline::add_datanode::NoDatanode;
-use pipeline::reply::Reply;
+use pipeline::reply::ReplyError;
 
 /// Why a call was refused.
 #[derive(Clone, Copy, Debug, PartialEq, Eq)]
@@ -23,7 +23,7 @@ pub enum Refusal {
     /// The frame, request or answer buffer is too short.
     Buffer,
     /// The opening's set up did not come back good.
-    SetUp(Reply),
+    SetUp(ReplyError),
     /// A passing answer has the number -2.
     UnknownSeqno,
     /// A passing answer has a number that is not the first held packet's.
@@ -37,7 +37,7 @@ pub enum Refusal {
     /// The namenode gave no stamp, or a token out of form.
     Stamp,
     /// The recovery's set up did not come back good.
-    Recovery(Reply),
+    Recovery(ReplyError),
     /// The namenode refused the update.
     Update,
     /// The writer is closed.

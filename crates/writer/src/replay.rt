@@ -1,5 +1,5 @@
 //! Held packets put again.
-ghost use Rattle.std.specs.Prelude.{◌≡◌, ◌+◌, ◌-◌, ◌<◌, ◌≤◌, length};
+ghost use Rattle.std.specs.Prelude.{◌≡◌, ◌+◌, ◌-◌, ◌<◌, ◌≤◌, length, is_ok};
 ghost use Rattle.packet.specs.Frame.{octets_of, over};
 ghost use Rattle.held.specs.Slots.{sizes_of, size_at, slot_of, packet_of, last_at};
 ghost use Rattle.writer.specs.Sizes.{capacity, frame_room};
@@ -10,7 +10,7 @@ use crate::hand::bytes_at;
 use crate::recovery::{Replayed, SetUp};
 use crate::state::Writer;
 use crate::state::kind::State;
-use chain::link::Link;
+use chain::link::{Link, LinkLost};
 use held::table::HeldTable;
 use packet::frame::WritePacket;
 use packet::size::PacketSize;
@@ -35,10 +35,10 @@ impl Writer {
         seqno: u64,
         offset: u64,
         last: bool,
-    ) -> bool
+    ) -> Result<(), LinkLost>
         requires store_len { length store.now ≡ self.now.terms.store_len }
         requires terms_in_bounds { frame_room self.now.terms ≤ length frame.old }
-        ensures put { L.Link.puts link.old (octets_of (packet_of (chunk_of (view_of self.now)) offset seqno last (slot_of (capacity self.now.terms) self.now.terms.slots store.now seqno (size_at self.now.terms.slots (sizes_of self.now.held.records.items) seqno)))) result link.new }
+        ensures put { L.Link.puts link.old (octets_of (packet_of (chunk_of (view_of self.now)) offset seqno last (slot_of (capacity self.now.terms) self.now.terms.slots store.now seqno (size_at self.now.terms.slots (sizes_of self.now.held.records.items) seqno)))) (is_ok result) link.new }
         ensures frame { frame.new ≡ over (packet_of (chunk_of (view_of self.now)) offset seqno last (slot_of (capacity self.now.terms) self.now.terms.slots store.now seqno (size_at self.now.terms.slots (sizes_of self.now.held.records.items) seqno))) frame.old }
     {
         let packet = WritePacket {
@@ -56,10 +56,7 @@ fn is_last(finished: bool, i: usize, count: usize) -> bool
     requires { i < count }
     ensures { result ≡ last_at finished (count - i - 1) }
 {
-    if i + 1 < count {
-        return false;
-    }
-    finished
+    finished && i + 1 == count
 }
 
 impl SetUp {
@@ -79,11 +76,12 @@ impl SetUp {
         let SetUp { least, stamp } = self;
         let finished = writer.state.has_ended();
         let mut offset = least;
-        let mut i = 0;
-        'packets: while i < writer.count {
+        // Goes by the place among the held packets, which their number, their slot and the end of the block follow from.
+        'packets: for i in 0..writer.count {
             let seqno = writer.first + i as u64;
             let last = is_last(finished, i, writer.count);
-            if !writer.put_held(link, store, frame, seqno, offset, last) {
+            let put = writer.put_held(link, store, frame, seqno, offset, last);
+            if put.is_err() {
                 return Replayed {
                     stamp,
                     replayed: i,
@@ -91,11 +89,10 @@ impl SetUp {
                 };
             }
             offset += writer.held_len(seqno) as u64;
-            i += 1;
         }
         Replayed {
             stamp,
-            replayed: i,
+            replayed: writer.count,
             lost: None,
         }
     }

@@ -1,5 +1,5 @@
 //! The datanodes of an opening, read into a table.
-ghost use Rattle.std.specs.Prelude.{◌≡◌, ◌<◌, ◌≤◌, length, vec_capacity, slice_index_or};
+ghost use Rattle.std.specs.Prelude.{◌≡◌, ◌<◌, ◌≤◌, length, is_some, slice_index_or};
 ghost use Rattle.pipeline.specs.Offers.{row_in, RowsRead};
 ghost use Rattle.writer.specs.Opening.{rows_in};
 
@@ -21,21 +21,18 @@ impl<'a> Opening<'a> {
         }
     }
 
-    // Puts the datanodes into the table. `false` says that one of them is not in form.
-    pub(crate) fn read_nodes(self, list: &mut NodeTable) -> bool
-        requires infos_len_bound { length self.infos.now ≤ vec_capacity list.old.rows }
+    // Puts the datanodes into the table, where all of them are in form.
+    pub(crate) fn read_nodes(self, list: &mut NodeTable) -> Option<()>
+        requires infos_len_bound { length self.infos.now ≤ 8 }
         requires storage_ids_len { (length self.storage_ids.now ≡ length self.infos.now) × (length self.storage_types.now ≡ length self.infos.now) }
-        ensures rows { RowsRead (rows_in self.entry) list.new.rows.items result }
-        ensures count { length list.new.rows.items ≤ length self.entry.infos.now }
-        ensures capacity { vec_capacity list.new.rows ≡ vec_capacity list.old.rows }
+        ensures { RowsRead (rows_in self.entry) list.new.rows.items (is_some result) }
     {
         list.clear();
+        // Goes by the place, which is one in three lists.
         for i in 0..self.infos.len() {
-            let Some(node) = read_node(self.row(i)) else {
-                return false;
-            };
+            let node = read_node(self.row(i))?;
             list.push(&node);
         }
-        true
+        Some(())
     }
 }

@@ -36,7 +36,6 @@ pub struct Writer {
     /// When the pipeline was last set up or a heartbeat put.
     pub(crate) beaten: u64,
     ghost shape: { (3 ≤ terms.slots) × (terms.slots ≤ 101) × (terms.slots * capacity terms ≤ terms.store_len) },
-    ghost table: { vec_len held.records ≡ 101 },
     ghost room: { count < terms.slots },
     ghost fits: { filling ≤ room_at terms (first + count) },
     ghost small: { (i : ℕ) → slice_index (sizes_of held.records.items) i ≤ capacity terms },
@@ -45,7 +44,5 @@ pub struct Writer {
     ghost ends: { waiting + filling ≤ len },
     ghost limit: { (len ≤ terms.block_size) × (terms.block_size < 2 ^ 63) },
     ghost done: { ended state ≡ true → filling ≡ 0 },
-    ghost few: { vec_len nodes.rows ≤ 8 },
-    ghost places: { (8 ≤ vec_capacity nodes.rows) × (8 ≤ vec_capacity chosen.rows) × (8 ≤ vec_capacity gone.rows) × (8 ≤ vec_capacity offered.rows) },
     ghost widths: { (stamp < 2 ^ 64) × (terms.block_id < 2 ^ 64) },
 }

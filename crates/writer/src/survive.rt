@@ -1,5 +1,6 @@
 //! The pipeline that a recovery goes on with: the datanodes that are left, or a list with a datanode added.
 ghost use Rattle.std.specs.Prelude.{◌≡◌, ◌≤◌, length, vec_len};
+ghost use Rattle.std.specs.Result.{result_err};
 ghost use Rattle.writer.specs.Recovering.{failed_on, left_of, gone_of, beyond, wants, Replaces, ChoosesIf, Ready};
 ghost use Rattle.writer.specs.Views.{view_of};
 
@@ -30,19 +31,19 @@ impl State {
 }
 
 impl Writer {
-    // Parts the datanodes into those that are left, in `chosen`, and those that are gone. Says why no pipeline can be made of the former.
-    pub(crate) fn survive(&mut self) -> Option<Refusal>
-        ensures value { result ≡ beyond (view_of self.old) }
+    // Parts the datanodes into those that are left, in `chosen`, and those that are gone, or says why no pipeline can be made of the former.
+    pub(crate) fn survive(&mut self) -> Result<(), Refusal>
+        ensures value { result_err result ≡ beyond (view_of self.old) }
         ensures view { view_of self.new ≡ view_of self.old }
-        ensures parted { Ready result (view_of self.old) self.new.chosen.rows.items self.new.gone.rows.items }
+        ensures parted { Ready (result_err result) (view_of self.old) self.new.chosen.rows.items self.new.gone.rows.items }
     {
         let failed = self.state.failed_nodes();
         let count = self.nodes.rows.len();
         if failed.count >= count {
-            return Some(Refusal::AllFailed);
+            return Err(Refusal::AllFailed);
         }
         if failed.highest >= count {
-            return Some(Refusal::PastPipeline);
+            return Err(Refusal::PastPipeline);
         }
         split(
             self.nodes.as_slice(),
@@ -51,9 +52,9 @@ impl Writer {
             &mut self.gone,
         );
         if self.chosen.rows.len() == 0 {
-            return Some(Refusal::AllFailed);
+            return Err(Refusal::AllFailed);
         }
-        None
+        Ok(())
     }
 
     // Has a datanode added to those that are left, if the namenode has one and it gets a copy; best effort goes on without.
@@ -67,10 +68,10 @@ impl Writer {
         requires rows_value { self.old.chosen.rows.items ≡ left_of (view_of self.old) }
         requires rows_value_2 { self.old.gone.rows.items ≡ gone_of (view_of self.old) }
         requires in_bounds { 4096 ≤ length request.old }
-        requires in_bounds_2 { (1 ≤ length self.old.chosen.rows.items) × (length self.old.chosen.rows.items ≤ 8) }
+        requires some_left { 1 ≤ length self.old.chosen.rows.items }
         ensures acts { Replaces L.Link.transfers N.NamenodeProtocol.lists (view_of self.old) (record { link = link.entry.now; request = request.old; answer = answer.old }) namenode.old result self.new.chosen.rows.items (record { link = link.exit.now; request = request.new; answer = answer.new }) namenode.new }
         ensures view { view_of self.new ≡ view_of self.old }
-        ensures few { (1 ≤ length self.new.chosen.rows.items) × (length self.new.chosen.rows.items ≤ 8) }
+        ensures some { 1 ≤ length self.new.chosen.rows.items }
     {
         let block = self.block();
         let added = add_datanode(
@@ -111,10 +112,10 @@ impl Writer {
         requires rows_value { self.old.chosen.rows.items ≡ left_of (view_of self.old) }
         requires rows_value_2 { self.old.gone.rows.items ≡ gone_of (view_of self.old) }
         requires in_bounds { 4096 ≤ length request.old }
-        requires in_bounds_2 { (1 ≤ length self.old.chosen.rows.items) × (length self.old.chosen.rows.items ≤ 8) }
+        requires some_left { 1 ≤ length self.old.chosen.rows.items }
         ensures acts { ChoosesIf L.Link.transfers N.NamenodeProtocol.lists (wants (view_of self.old)) (view_of self.old) (record { link = link.entry.now; request = request.old; answer = answer.old }) namenode.old result self.new.chosen.rows.items (record { link = link.exit.now; request = request.new; answer = answer.new }) namenode.new }
         ensures view { view_of self.new ≡ view_of self.old }
-        ensures few { (1 ≤ length self.new.chosen.rows.items) × (length self.new.chosen.rows.items ≤ 8) }
+        ensures some { 1 ≤ length self.new.chosen.rows.items }
     {
         let left = self.chosen.rows.len();
         if !self

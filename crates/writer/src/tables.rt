@@ -14,9 +14,7 @@ pub struct Tables {
     pub(crate) chosen: NodeTable,
     pub(crate) gone: NodeTable,
     pub(crate) offered: NodeTable,
-    ghost table: { vec_len held.records ≡ 101 },
     ghost sizes: { sizes_of held.records.items ≡ replicate 101 0 },
-    ghost places: { (8 ≤ vec_capacity nodes.rows) × (8 ≤ vec_capacity chosen.rows) × (8 ≤ vec_capacity gone.rows) × (8 ≤ vec_capacity offered.rows) },
 }
 
 impl Tables {

@@ -10,7 +10,7 @@ ghost use Rattle.writer.specs.Writing.{Turns, Writes, Wrote};
 use crate::admit::{Call, Lens};
 use crate::refusal::Refusal;
 use crate::state::Writer;
-use chain::link::Link;
+use chain::link::{Link, LinkLost};
 
 /// One turn of a write.
 #[derive(Clone, Copy)]
@@ -57,10 +57,9 @@ impl Writer {
         if self.count + 1 >= self.terms.slots {
             return Step::Stopped;
         }
-        if self.hand_over(link, store, frame) {
-            Step::Handed
-        } else {
-            Step::Lost
+        match self.hand_over(link, store, frame) {
+            Ok(()) => Step::Handed,
+            Err(LinkLost) => Step::Lost,
         }
     }
 
@@ -110,15 +109,7 @@ impl Writer {
     ) -> Result<Written, Refusal>
         ensures { Wrote L.Link.puts (refusal_for (view_of self.old) call.Write (lens_of store.old frame.old request.now answer.now)) (record { view = view_of self.old; store = store.old; frame = frame.old; link = link.old }) bytes.now result (record { view = view_of self.new; store = store.new; frame = frame.new; link = link.new }) }
     {
-        let lens = Lens {
-            store: store.len(),
-            frame: frame.len(),
-            request: request.len(),
-            answer: answer.len(),
-        };
-        match self.admit(Call::Write, lens) {
-            Some(refusal) => Err(refusal),
-            None => Ok(self.pour(link, store, frame, bytes)),
-        }
+        self.admit(Call::Write, Lens::of(store, frame, request, answer))?;
+        Ok(self.pour(link, store, frame, bytes))
     }
 }

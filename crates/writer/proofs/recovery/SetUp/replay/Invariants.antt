@@ -14,6 +14,3 @@ invariant-packets g l =
     × Onward g.L.Link.puts (held_in (view_of l.writer) l.store l.least) l.initial.frame l.initial.link l.i
     (packets (chunk_of (view_of l.writer)) (capacity l.writer.terms) l.writer.terms.slots (sizes_of (vec_items l.writer.held.records)) l.store (ended l.writer.state) (l.writer.count - l.i) (l.writer.first + l.i) l.offset)
     l.frame l.link
-
-abbrev pub decreases-packets : goal.decreases-packets
-decreases-packets g l = l.writer.count - l.i

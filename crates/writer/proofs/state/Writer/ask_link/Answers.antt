@@ -1,5 +1,5 @@
 use Rattle.std.proofs.Common.{ap, ◌∙◌}
-use Rattle.sending.specs.declared.ask.Heard.{Heard}
+use Rattle.sending.specs.Asking.{Heard}
 use Rattle.sending.proofs.Coming.{comes}
 use Rattle.writer.specs.Views.{view_of}
 use Rattle.writer.specs.Heeding.{decided, answer_of, after}

@@ -15,7 +15,6 @@ invariant_of-self c =
     let t = total_first w.terms.slots (sizes_of (vec_items w.held.records)) w.count w.first c.requires in
     let next : w.first + w.count ≡ w.first + 1 + (w.count - 1) = omega (arith, c.requires) in record {
       shape = w.shape;
-      table = w.table;
       room = omega (arith, w.room);
       fits = subst (λ (n : ℕ). w.filling ≤ room_at w.terms n) next w.fits;
       small = w.small;
@@ -24,7 +23,5 @@ invariant_of-self c =
       ends = omega (arith, w.ends);
       limit = w.limit;
       done = w.done;
-      few = w.few;
-      places = w.places;
       widths = w.widths;
     }

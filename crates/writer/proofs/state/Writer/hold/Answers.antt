@@ -11,13 +11,12 @@ invariant_of-self c =
     let sizes = sizes_of (vec_items w.held.records) in
     let s = w.terms.slots in
     let n = w.first + w.count in
-    let e = c.note.ensures.sizes in
+    let e = c.note.ensures in
     let t : w.waiting + w.filling ≡ total s (sizes_of (vec_items c.note.new.self.records)) (w.count + 1) w.first =
     ap (λ (k : ℕ). k + w.filling) w.sums
     ∙ sym (handed_total 0 0 s sizes sizes w.count w.first w.filling w.room (sizes_table w))
     ∙ ap (λ (z : List ℕ). total s z (w.count + 1) w.first) (sym e) in record {
       shape = w.shape;
-      table = c.note.ensures.count ∙ w.table;
       room = c.requires.count_bound;
       fits = omega arith;
       small = (λ i. subst (λ (z : List ℕ). get_or z i 0 ≤ capacity w.terms) (sym e) (set_small sizes (n % s) w.filling (capacity w.terms) w.small (filling_small w) i));
@@ -26,7 +25,5 @@ invariant_of-self c =
       ends = omega (arith, w.ends);
       limit = w.limit;
       done = (λ d. refl);
-      few = w.few;
-      places = w.places;
       widths = w.widths;
     }

@@ -5,8 +5,8 @@ use Rattle.packet.proofs.Room.{size_fits}
 use Rattle.writer.specs.Sizes.{capacity}
 use Rattle.writer.proofs.state.Writer.put_beat.Goals as goal
 
-pub put_packet-sent-requires : goal.put_packet-sent-requires
-put_packet-sent-requires g c =
+pub put_packet-put-requires : goal.put_packet-put-requires
+put_packet-put-requires g c =
     let w = c.args.self.now in
     let p : WritePacket = record { offset = 0; seqno = 18446744073709551615; last = false; «data» = c.bytes_at.result } in
     let long : length c.bytes_at.result.now ≤ capacity w.terms = omega (arith, ap length c.bytes_at.ensures, length-take 0 (drop 0 c.args.store.now)) in

@@ -1,26 +1,25 @@
-use Rattle.std.proofs.Common.{length, vec_items, sym, ap, ◌∙◌, subst, arith}
+use Rattle.std.proofs.Common.{sym, ap, ◌∙◌, subst, arith}
 use Rattle.writer.specs.declared.terms.Terms.{Terms}
-use Rattle.writer.specs.Recovering.{left_of, gone_of, failed_on}
+use Rattle.writer.specs.Recovering.{left_of, gone_of}
 use Rattle.writer.specs.Sizes.{frame_room}
 use Rattle.writer.specs.States.{IsBrokenState}
 use Rattle.writer.specs.Views.{View}
-use Rattle.writer.proofs.Stamping.{survivors_few}
 use Rattle.writer.proofs.state.Writer.recover_broken.Goals as goal
 
 pub choose_and_rebuild-requires : goal.choose_and_rebuild-requires
 choose_and_rebuild-requires g c =
-    let x = c.in-None.ensures in
+    let x = c.in-Ok.ensures in
     let w = c.args.self.now in
     let e = x.view in
     let p = x.parted in
     let state = ap (λ (v : View). v.state) e in
     let terms = ap (λ (v : View). v.terms) e in
-    let few = survivors_few (failed_on w.state).positions (vec_items w.nodes.rows) in record {
+    record {
       is_broken = subst IsBrokenState (sym state) c.requires.is_broken;
       store_len = c.requires.store_len ∙ ap (λ (t : Terms). t.store_len) (sym terms);
       terms_in_bounds = omega (arith, c.requires.terms_in_bounds, ap frame_room terms);
       in_bounds = c.requires.in_bounds;
       rows_value = p.0 ∙ ap left_of (sym e);
       rows_value_2 = p.1 ∙ ap gone_of (sym e);
-      in_bounds_2 = (p.2, omega (arith, ap length p.0, few, w.few, w.nodes.rows.ok.0));
+      some_left = p.2;
     }

@@ -1,5 +1,6 @@
-use Rattle.std.proofs.Common.{◌≡◌, length, None, vec_items, ap, arith, rules}
+use Rattle.std.proofs.Common.{◌≡◌, length, None, vec_items, ap, subst, arith, rules}
 use Rattle.writer.specs.Opening.{by_length, by_count, by_buffers}
+use Rattle.writer.specs.Settling.{Formed}
 use Rattle.writer.proofs.Listing.{rows_long, map_long}
 use Rattle.writer.proofs.Openings.{counts_fit, later_none}
 use Rattle.writer.proofs.tables.Tables.settle_sized.Goals as goal
@@ -11,9 +12,9 @@ returns c =
     let a : by_length o ≡ None = search rules in
     let b : by_count o ≡ None = search rules in
     let d : by_buffers o l ≡ None = search rules in
-    let f = c.in-Some-read_forms.ensures in
-    let n = counts_fit o b in
     let nodes = vec_items c.read_forms.new.self.nodes.rows in
+    let f = subst (Formed o nodes) c.in_ok-forms.ensures.ok_part c.read_forms.ensures in
+    let n = counts_fit o b in
     let long = rows_long o.infos.now o.storage_ids.now o.storage_types.now n.names n.types in
     record {
       good = later_none o l a b f.good d;
