@@ -11,7 +11,8 @@ use Rattle.replace.specs.Choice.{choice_of}
 use Rattle.namenode.specs.Entries.{Ask, Offer}
 use Rattle.pipeline.specs.Offers.{node_row, Rows, in_form}
 use Rattle.pipeline.specs.Replies.{Reply}
-use Rattle.pipeline.specs.Adding.{Line, Added, outcome_of, Copied, Copies, Shows, Listed, Adds, Within}
+use Rattle.pipeline.specs.Channels.{Line}
+use Rattle.pipeline.specs.Adding.{Added, outcome_of, Copied, Copies, Shows, Listed, Adds, Within}
 
 leb_of : (m n : ℕ) (b : Bool) → leb m n && b ≡ true → m ≤ n
 leb_of m n b e = grind (arith, nat_tests)

@@ -13,15 +13,10 @@ use Rattle.pipeline.specs.declared.add_datanode.NoDatanode.{NoDatanode}
 use Rattle.pipeline.specs.declared.add_datanode.NoDatanode.TheVariants as no
 use Rattle.pipeline.specs.declared.reply.ReplyError.{ReplyError}
 use Rattle.pipeline.specs.declared.reply.ReplyError.TheVariants.{Lost, Undecodable, Status}
+use Rattle.pipeline.specs.Channels.{Line}
 use Rattle.pipeline.specs.Offers.{Rows, in_form}
 use Rattle.pipeline.specs.Replies.{Reply}
 use Rattle.pipeline.specs.Transfers.{Transfers}
-
--- a link, and the buffers for a request and for its response
-pub record Line (L : Type 0) : Type 0 where
-  pub link : L
-  pub request : List ℕ
-  pub answer : List ℕ
 
 -- the positions of the new datanode and of its source, or why there is none
 abbrev pub Added : Type 0

@@ -1,13 +1,12 @@
 //! A datanode added to a pipeline that lost one: asked for at the namenode, chosen from its list, and given a copy of the block.
-ghost use Rattle.std.specs.Prelude.{◌≡◌, ◌≤◌, length};
-ghost use Rattle.replace.specs.Choice.{choice_of};
+ghost use Rattle.std.specs.Prelude.{◌≡◌};
 ghost use Rattle.pipeline.specs.declared.add_datanode.NoDatanode.TheVariants as no;
-ghost use Rattle.pipeline.specs.Adding.{unchosen, uncopied, Copies, Adds, Within};
+ghost use Rattle.pipeline.specs.Adding.{unchosen, uncopied};
 
+use crate::channel::Channel;
 use crate::nodes::NodeTable;
 use crate::offer::read_offer;
 use crate::reply::ReplyError;
-use crate::transfer::transfer;
 use chain::link::Link;
 use namenode::protocol::{NamenodeProtocol, Refused};
 use proto::block::{ClientOperationHeader, ExtendedBlock};
@@ -80,48 +79,50 @@ impl From<ReplyError> for NoDatanode {
     }
 }
 
-// Chooses a new datanode of the list and has its source copy the block to it.
-fn copy_to_new<'a, L: Link>(
-    link: &mut L,
-    header: ClientOperationHeader<'a>,
-    list: &'a [Datanode],
-    old: &[Datanode],
-    request: &mut [u8],
-    answer: &mut [u8],
-) -> Result<(usize, usize), NoDatanode>
-    requires { 4096 ≤ length request.old }
-    ensures { Copies L.Link.transfers header.entry list.now (choice_of list.now old.now) (record { link = link.entry.now; request = request.old; answer = answer.old }) result (record { link = link.exit.now; request = request.new; answer = answer.new }) }
-{
-    let (new, source) = choose(list, old)?;
-    transfer(link, header, &list[source], &list[new], request, answer)?;
-    Ok((new, source))
-}
+impl<'a, L: Link> Channel<'a, L> {
+    ghost use Rattle.replace.specs.Choice.{choice_of};
+    ghost use Rattle.pipeline.specs.Channels.{line_at, SameLoans};
+    ghost use Rattle.pipeline.specs.Adding.{Copies, Adds, Within};
 
-/// Adds a datanode to a pipeline of the datanodes `left`, after those that are `gone`; `old` are all that it had. The namenode is asked
-/// once and its list is read into `list`. The first datanode there that is none of `old` is the new one, and the one before it, or the
-/// second where it is first, copies the block to it. Answers the places of the two in `list`.
-pub fn add_datanode<L: Link, N: NamenodeProtocol>(
-    link: &mut L,
-    namenode: &mut N,
-    block: ExtendedBlock,
-    client_name: &Fixed<64>,
-    old: &[Datanode],
-    left: &[Datanode],
-    gone: &[Datanode],
-    list: &mut NodeTable,
-    request: &mut [u8],
-    answer: &mut [u8],
-) -> Result<(usize, usize), NoDatanode>
-    requires { 4096 ≤ length request.old }
-    ensures acts { Adds L.Link.transfers N.NamenodeProtocol.lists block client_name.now old.now left.now gone.now list.old.rows.items list.new.rows.items (record { link = link.entry.now; request = request.old; answer = answer.old }) namenode.old result (record { link = link.exit.now; request = request.new; answer = answer.new }) namenode.new }
-    ensures within { Within list.new.rows.items result }
-{
-    namenode.get_additional_datanode(block.num_bytes, left, gone)?;
-    let token = read_offer(namenode, list).ok_or(NoDatanode::List)?;
-    let header = ClientOperationHeader {
-        block,
-        token: &token,
-        client_name,
-    };
-    copy_to_new(link, header, list.as_slice(), old, request, answer)
+    // Chooses a new datanode of the list and has its source copy the block to it.
+    fn copy_to_new<'b>(
+        &mut self,
+        header: ClientOperationHeader<'b>,
+        list: &'b [Datanode],
+        old: &[Datanode],
+    ) -> Result<(usize, usize), NoDatanode>
+        ensures acts { Copies L.Link.transfers header.entry list.now (choice_of list.now old.now) (line_at self.old) result (line_at self.new) }
+        ensures same { SameLoans self.old self.new }
+    {
+        let (new, source) = choose(list, old)?;
+        self.transfer(header, &list[source], &list[new])?;
+        Ok((new, source))
+    }
+
+    /// Adds a datanode to a pipeline of the datanodes `left`, after those that are `gone`; `old` are all that it had. The namenode is asked
+    /// once and its list is read into `list`. The first datanode there that is none of `old` is the new one, and the one before it, or the
+    /// second where it is first, copies the block to it. Answers the places of the two in `list`.
+    pub fn add_datanode<N: NamenodeProtocol>(
+        &mut self,
+        namenode: &mut N,
+        block: ExtendedBlock,
+        client_name: &Fixed<64>,
+        old: &[Datanode],
+        left: &[Datanode],
+        gone: &[Datanode],
+        list: &mut NodeTable,
+    ) -> Result<(usize, usize), NoDatanode>
+        ensures acts { Adds L.Link.transfers N.NamenodeProtocol.lists block client_name.now old.now left.now gone.now list.old.rows.items list.new.rows.items (line_at self.old) namenode.old result (line_at self.new) namenode.new }
+        ensures same { SameLoans self.old self.new }
+        ensures within { Within list.new.rows.items result }
+    {
+        namenode.get_additional_datanode(block.num_bytes, left, gone)?;
+        let token = read_offer(namenode, list).ok_or(NoDatanode::List)?;
+        let header = ClientOperationHeader {
+            block,
+            token: &token,
+            client_name,
+        };
+        self.copy_to_new(header, list.as_slice(), old)
+    }
 }

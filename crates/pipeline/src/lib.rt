@@ -3,6 +3,7 @@
 #![tactic(auto)]
 
 pub mod add_datanode;
+pub mod channel;
 pub mod nodes;
 pub mod offer;
 pub mod reply;

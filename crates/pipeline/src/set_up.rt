@@ -2,6 +2,7 @@
 ghost use Rattle.std.specs.Prelude.{◌≤◌, length};
 ghost use Rattle.pipeline.specs.SetUps.{Requests, SetsUp};
 
+use crate::channel::Channel;
 use crate::reply::{ReplyError, judge_reply};
 use crate::write_request::write_request;
 use chain::link::Link;
@@ -38,9 +39,8 @@ fn request_for<'a>(setting: Setting<'a>, nodes: &'a [Datanode]) -> WriteBlock<'a
     }
 }
 
-/// Sets up a pipeline of these datanodes: writes the request to the front of `request` and sends it once, to the first datanode. The
-/// response stands at the front of `answer`, which stays as it was where none came.
-pub fn set_up<'a, L: Link>(
+// Writes the request to the front of `request`, sends it once, and judges the response.
+fn send_set_up<'a, L: Link>(
     link: &mut L,
     nodes: &'a [Datanode],
     setting: Setting<'a>,
@@ -54,4 +54,22 @@ pub fn set_up<'a, L: Link>(
     let end = write_request(&message, request);
     let came = link.set_up(message.first, &request[0..end], setting.min_bytes, answer);
     judge_reply(came, answer)
+}
+
+impl<'a, L: Link> Channel<'a, L> {
+    ghost use Rattle.pipeline.specs.Channels.{SameLoans};
+
+    /// Sets up a pipeline of these datanodes: writes the request and sends it once, to the first datanode. The response stands at the front
+    /// of the answer's buffer, which stays as it was where none came.
+    pub fn set_up<'b>(
+        &mut self,
+        nodes: &'b [Datanode],
+        setting: Setting<'b>,
+    ) -> Result<(), ReplyError>
+        requires { (1 ≤ length nodes.now) × (length nodes.now ≤ 8) }
+        ensures acts { SetsUp L.Link.sets setting.entry nodes.now self.old.link.now self.old.request.now self.new.request.now self.old.answer.now self.new.answer.now result self.new.link.now }
+        ensures same { SameLoans self.old self.new }
+    {
+        send_set_up(self.link, nodes, setting, self.request, self.answer)
+    }
 }

@@ -3,7 +3,7 @@ use Rattle.std.specs.Prelude.{ℕ, Bool, true, false, List, Some, None, Ok, Err,
 use Rattle.proto.specs.declared.datanode.Datanode.{Datanode}
 use Rattle.proto.specs.Rules.{is_token}
 use Rattle.namenode.specs.Entries.{Entry, Ask, Offer}
-use Rattle.pipeline.specs.Adding.{Line}
+use Rattle.pipeline.specs.Channels.{Line}
 use Rattle.writer.specs.declared.recover.Recovered.{Recovered}
 use Rattle.writer.specs.declared.refusal.Refusal.{Refusal}
 use Rattle.writer.specs.Views.{View}

@@ -7,7 +7,7 @@ use Rattle.request.specs.declared.stage.Stage.TheVariants.{SetupStreamingRecover
 use Rattle.namenode.specs.Entries.{Entry, Ask, Offer}
 use Rattle.pipeline.specs.Replies.{Reply}
 use Rattle.pipeline.specs.declared.set_up.Setting.{Setting}
-use Rattle.pipeline.specs.Adding.{Line}
+use Rattle.pipeline.specs.Channels.{Line}
 use Rattle.writer.specs.declared.recover.Recovered.{Recovered}
 use Rattle.writer.specs.declared.recovery.SetUp.{SetUp}
 use Rattle.writer.specs.declared.refusal.Refusal.{Refusal}

@@ -5,7 +5,7 @@ use Rattle.proto.specs.declared.token.Token.{Token}
 use Rattle.proto.specs.Messages.{held}
 use Rattle.proto.specs.Rules.{is_token}
 use Rattle.namenode.specs.Entries.{Entry, Ask, Offer}
-use Rattle.pipeline.specs.Adding.{Line}
+use Rattle.pipeline.specs.Channels.{Line}
 use Rattle.writer.specs.declared.recover.Recovered.{Recovered}
 use Rattle.writer.specs.declared.recovery.Stamped.{Stamped}
 use Rattle.writer.specs.declared.refusal.Refusal.{Refusal}

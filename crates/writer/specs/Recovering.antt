@@ -10,7 +10,8 @@ use Rattle.replace.specs.Decision.{should_replace}
 use Rattle.namenode.specs.Entries.{Entry, Ask, Offer, entry_for}
 use Rattle.pipeline.specs.declared.add_datanode.NoDatanode.{NoDatanode}
 use Rattle.pipeline.specs.declared.set_up.Setting.{Setting}
-use Rattle.pipeline.specs.Adding.{Line, Added, Adds}
+use Rattle.pipeline.specs.Channels.{Line}
+use Rattle.pipeline.specs.Adding.{Added, Adds}
 use Rattle.pipeline.specs.Replies.{Reply}
 use Rattle.pipeline.specs.SetUps.{SetsUp}
 use Rattle.pipeline.specs.Survivors.{survivors, failed_of}

@@ -19,7 +19,7 @@ use held::table::SLOTS;
 use packet::size::PacketSize;
 use packet::size::settings::SizeError;
 use pipeline::nodes::NodeTable;
-use pipeline::set_up::{Setting, set_up};
+use pipeline::set_up::Setting;
 use proto::block::{ClientOperationHeader, ExtendedBlock};
 use proto::fixed::Fixed;
 use proto::token::Token;

@@ -1,6 +1,7 @@
 //! A broken pipeline rebuilt.
 ghost use Rattle.std.specs.Prelude.{◌≡◌, ℕ, ◌^◌, ◌<◌, ◌≤◌, List, length};
 ghost use Rattle.proto.specs.Messages.{held};
+ghost use Rattle.pipeline.specs.Channels.{line_at, SameLoans};
 ghost use Rattle.writer.specs.declared.admit.Call.TheVariants as call;
 ghost use Rattle.writer.specs.Admits.{refusal_for, lens_of};
 ghost use Rattle.writer.specs.Recovering.{restored, state_on, left_of, gone_of, beyond, Resumes, Builds, AsksStamp, Rebuilds, Survived, Recovers};
@@ -16,6 +17,7 @@ use crate::state::Writer;
 use crate::state::kind::State;
 use chain::link::Link;
 use namenode::protocol::NamenodeProtocol;
+use pipeline::channel::Channel;
 use pipeline::nodes::NodeTable;
 use proto::token::Token;
 
@@ -110,25 +112,32 @@ impl Writer {
         stamped: Stamped,
         token: Token,
         choice: Option<(usize, usize)>,
-        link: &mut L,
+        channel: &mut Channel<'_, L>,
         namenode: &mut N,
         store: &[u8],
         frame: &mut [u8],
-        request: &mut [u8],
-        answer: &mut [u8],
         time: u64,
     ) -> Result<Recovered, Refusal>
         requires is_broken { IsBrokenState self.old.state }
         requires least_value { stamped.least ≡ least_of (view_of self.old) }
         requires store_len { length store.now ≡ self.old.terms.store_len }
         requires terms_in_bounds { frame_room self.old.terms ≤ length frame.old }
-        requires in_bounds { 4096 ≤ length request.old }
         requires some_left { 1 ≤ length self.old.chosen.rows.items }
-        ensures { (octets : List ℕ) → held token.message ≡ octets → Builds L.Link.sets L.Link.puts L.Link.transfers N.NamenodeProtocol.lists N.NamenodeProtocol.stamps N.NamenodeProtocol.updates (view_of self.old) store.now time choice self.old.chosen.rows.items stamped.stamp octets frame.old (record { link = link.entry.now; request = request.old; answer = answer.old }) namenode.old result (view_of self.new) (record { link = link.exit.now; namenode = namenode.new; frame = frame.new; request = request.new; answer = answer.new }) }
+        ensures same { SameLoans channel.old channel.new }
+        ensures acts { (octets : List ℕ) → held token.message ≡ octets → Builds L.Link.sets L.Link.puts L.Link.transfers N.NamenodeProtocol.lists N.NamenodeProtocol.stamps N.NamenodeProtocol.updates (view_of self.old) store.now time choice self.old.chosen.rows.items stamped.stamp octets frame.old (line_at channel.old) namenode.old result (view_of self.new) (record { link = channel.new.link.now; namenode = namenode.new; frame = frame.new; request = channel.new.request.now; answer = channel.new.answer.now }) }
     {
-        match stamped.set_up(link, self, &token, request, answer) {
+        match stamped.set_up(channel, self, &token) {
             Ok(set_up) => {
-                self.replay_on(set_up, token, choice, link, namenode, store, frame, time)
+                self.replay_on(
+                    set_up,
+                    token,
+                    choice,
+                    channel.link,
+                    namenode,
+                    store,
+                    frame,
+                    time,
+                )
             }
             Err(refusal) => Err(self.close_by(refusal)),
         }
@@ -138,25 +147,23 @@ impl Writer {
     fn rebuild<L: Link, N: NamenodeProtocol>(
         &mut self,
         choice: Option<(usize, usize)>,
-        link: &mut L,
+        channel: &mut Channel<'_, L>,
         namenode: &mut N,
         store: &[u8],
         frame: &mut [u8],
-        request: &mut [u8],
-        answer: &mut [u8],
         time: u64,
     ) -> Result<Recovered, Refusal>
         requires is_broken { IsBrokenState self.old.state }
         requires store_len { length store.now ≡ self.old.terms.store_len }
         requires terms_in_bounds { frame_room self.old.terms ≤ length frame.old }
-        requires in_bounds { 4096 ≤ length request.old }
         requires some_left { 1 ≤ length self.old.chosen.rows.items }
-        ensures { AsksStamp L.Link.sets L.Link.puts L.Link.transfers N.NamenodeProtocol.lists N.NamenodeProtocol.stamps N.NamenodeProtocol.updates (view_of self.old) store.now time choice self.old.chosen.rows.items frame.old (record { link = link.entry.now; request = request.old; answer = answer.old }) namenode.old result (view_of self.new) (record { link = link.exit.now; namenode = namenode.new; frame = frame.new; request = request.new; answer = answer.new }) }
+        ensures same { SameLoans channel.old channel.new }
+        ensures acts { AsksStamp L.Link.sets L.Link.puts L.Link.transfers N.NamenodeProtocol.lists N.NamenodeProtocol.stamps N.NamenodeProtocol.updates (view_of self.old) store.now time choice self.old.chosen.rows.items frame.old (line_at channel.old) namenode.old result (view_of self.new) (record { link = channel.new.link.now; namenode = namenode.new; frame = frame.new; request = channel.new.request.now; answer = channel.new.answer.now }) }
     {
         let counted = Counted::of(self);
         match counted.stamp(namenode, self.len) {
             Ok((stamped, token)) => self.build(
-                stamped, token, choice, link, namenode, store, frame, request, answer, time,
+                stamped, token, choice, channel, namenode, store, frame, time,
             ),
             Err(refusal) => Err(self.close_by(refusal)),
         }
@@ -165,47 +172,43 @@ impl Writer {
     // Chooses a pipeline of those that survived, and rebuilds on it.
     fn choose_and_rebuild<L: Link, N: NamenodeProtocol>(
         &mut self,
-        link: &mut L,
+        channel: &mut Channel<'_, L>,
         namenode: &mut N,
         store: &[u8],
         frame: &mut [u8],
-        request: &mut [u8],
-        answer: &mut [u8],
         time: u64,
     ) -> Result<Recovered, Refusal>
         requires is_broken { IsBrokenState self.old.state }
         requires store_len { length store.now ≡ self.old.terms.store_len }
         requires terms_in_bounds { frame_room self.old.terms ≤ length frame.old }
-        requires in_bounds { 4096 ≤ length request.old }
         requires rows_value { self.old.chosen.rows.items ≡ left_of (view_of self.old) }
         requires rows_value_2 { self.old.gone.rows.items ≡ gone_of (view_of self.old) }
         requires some_left { 1 ≤ length self.old.chosen.rows.items }
-        ensures { Rebuilds L.Link.sets L.Link.puts L.Link.transfers N.NamenodeProtocol.lists N.NamenodeProtocol.stamps N.NamenodeProtocol.updates (view_of self.old) store.now time (record { link = link.entry.now; namenode = namenode.old; frame = frame.old; request = request.old; answer = answer.old }) result (view_of self.new) (record { link = link.exit.now; namenode = namenode.new; frame = frame.new; request = request.new; answer = answer.new }) }
+        ensures same { SameLoans channel.old channel.new }
+        ensures acts { Rebuilds L.Link.sets L.Link.puts L.Link.transfers N.NamenodeProtocol.lists N.NamenodeProtocol.stamps N.NamenodeProtocol.updates (view_of self.old) store.now time (record { link = channel.old.link.now; namenode = namenode.old; frame = frame.old; request = channel.old.request.now; answer = channel.old.answer.now }) result (view_of self.new) (record { link = channel.new.link.now; namenode = namenode.new; frame = frame.new; request = channel.new.request.now; answer = channel.new.answer.now }) }
     {
-        match self.choose_pipeline(link, namenode, request, answer) {
-            Ok(choice) => self.rebuild(choice, link, namenode, store, frame, request, answer, time),
+        match self.choose_pipeline(channel, namenode) {
+            Ok(choice) => self.rebuild(choice, channel, namenode, store, frame, time),
             Err(why) => Err(self.close_by(Refusal::Replacement(why))),
         }
     }
 
     fn recover_broken<L: Link, N: NamenodeProtocol>(
         &mut self,
-        link: &mut L,
+        channel: &mut Channel<'_, L>,
         namenode: &mut N,
         store: &[u8],
         frame: &mut [u8],
-        request: &mut [u8],
-        answer: &mut [u8],
         time: u64,
     ) -> Result<Recovered, Refusal>
         requires is_broken { IsBrokenState self.old.state }
         requires store_len { length store.now ≡ self.old.terms.store_len }
         requires terms_in_bounds { frame_room self.old.terms ≤ length frame.old }
-        requires in_bounds { 4096 ≤ length request.old }
-        ensures { Survived L.Link.sets L.Link.puts L.Link.transfers N.NamenodeProtocol.lists N.NamenodeProtocol.stamps N.NamenodeProtocol.updates (beyond (view_of self.old)) (view_of self.old) store.now time (record { link = link.entry.now; namenode = namenode.old; frame = frame.old; request = request.old; answer = answer.old }) result (view_of self.new) (record { link = link.exit.now; namenode = namenode.new; frame = frame.new; request = request.new; answer = answer.new }) }
+        ensures same { SameLoans channel.old channel.new }
+        ensures acts { Survived L.Link.sets L.Link.puts L.Link.transfers N.NamenodeProtocol.lists N.NamenodeProtocol.stamps N.NamenodeProtocol.updates (beyond (view_of self.old)) (view_of self.old) store.now time (record { link = channel.old.link.now; namenode = namenode.old; frame = frame.old; request = channel.old.request.now; answer = channel.old.answer.now }) result (view_of self.new) (record { link = channel.new.link.now; namenode = namenode.new; frame = frame.new; request = channel.new.request.now; answer = channel.new.answer.now }) }
     {
         match self.survive() {
-            Ok(()) => self.choose_and_rebuild(link, namenode, store, frame, request, answer, time),
+            Ok(()) => self.choose_and_rebuild(channel, namenode, store, frame, time),
             Err(refusal) => Err(self.close_by(refusal)),
         }
     }
@@ -224,6 +227,11 @@ impl Writer {
         ensures { Recovers L.Link.sets L.Link.puts L.Link.transfers N.NamenodeProtocol.lists N.NamenodeProtocol.stamps N.NamenodeProtocol.updates (refusal_for (view_of self.old) call.Recover (lens_of store.now frame.old request.old answer.old)) (view_of self.old) store.now time (record { link = link.entry.now; namenode = namenode.old; frame = frame.old; request = request.old; answer = answer.old }) result (view_of self.new) (record { link = link.exit.now; namenode = namenode.new; frame = frame.new; request = request.new; answer = answer.new }) }
     {
         self.admit(Call::Recover, Lens::of(store, frame, request, answer))?;
-        self.recover_broken(link, namenode, store, frame, request, answer, time)
+        let mut channel = Channel {
+            link,
+            request,
+            answer,
+        };
+        self.recover_broken(&mut channel, namenode, store, frame, time)
     }
 }

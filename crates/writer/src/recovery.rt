@@ -3,6 +3,7 @@
 ghost use Rattle.std.specs.Prelude.{◌≡◌, ◌+◌, ◌%◌, ◌<◌, ◌≤◌, length};
 ghost use Rattle.packet.specs.Frame.{octets_of, over};
 ghost use Rattle.held.specs.Slots.{sizes_of, size_at, slot_of, packet_of};
+ghost use Rattle.pipeline.specs.Channels.{SameLoans};
 ghost use Rattle.writer.specs.Closing.{record_of};
 ghost use Rattle.writer.specs.Sizes.{capacity, frame_room};
 ghost use Rattle.writer.specs.Stages.{Stamps, SetsUpOn, ReplaysOn, UpdatesOn};
@@ -16,8 +17,9 @@ use held::table::HeldTable;
 use namenode::protocol::NamenodeProtocol;
 use packet::frame::WritePacket;
 use packet::size::PacketSize;
+use pipeline::channel::Channel;
 use pipeline::nodes::NodeTable;
-use pipeline::set_up::{Setting, set_up};
+use pipeline::set_up::Setting;
 use proto::block::{ClientOperationHeader, ExtendedBlock};
 use proto::datanode::Datanode;
 use proto::token::Token;
@@ -93,14 +95,13 @@ impl Stamped {
     /// Sets up the chosen pipeline, with the old stamp in the block and the new one beside it.
     pub(crate) fn set_up<'a, L: Link>(
         self,
-        link: &mut L,
+        channel: &mut Channel<'_, L>,
         writer: &'a Writer,
         token: &'a Token,
-        request: &mut [u8],
-        answer: &mut [u8],
     ) -> Result<SetUp, Refusal>
-        requires { (1 ≤ length writer.now.chosen.rows.items) × (4096 ≤ length request.old) }
-        ensures { SetsUpOn L.Link.sets (view_of writer.now) token.now writer.now.chosen.rows.items self.least self.stamp link.old request.old request.new answer.old answer.new result link.new }
+        requires { 1 ≤ length writer.now.chosen.rows.items }
+        ensures same { SameLoans channel.old channel.new }
+        ensures acts { SetsUpOn L.Link.sets (view_of writer.now) token.now writer.now.chosen.rows.items self.least self.stamp channel.old.link.now channel.old.request.now channel.new.request.now channel.old.answer.now channel.new.answer.now result channel.new.link.now }
     {
         let Stamped { least, stamp } = self;
         let setting = Setting {
@@ -115,9 +116,9 @@ impl Stamped {
             latest_stamp: stamp,
             chunk_size: writer.terms.size.chunk_size(),
         };
-        set_up(link, writer.chosen.as_slice(), setting, request, answer).map_err(
-            Refusal::Recovery,
-        )?;
+        channel
+            .set_up(writer.chosen.as_slice(), setting)
+            .map_err(Refusal::Recovery)?;
         Ok(SetUp { least, stamp })
     }
 }

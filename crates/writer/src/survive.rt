@@ -1,6 +1,7 @@
 //! The pipeline that a recovery goes on with: the datanodes that are left, or a list with a datanode added.
 ghost use Rattle.std.specs.Prelude.{◌≡◌, ◌≤◌, length, vec_len};
 ghost use Rattle.std.specs.Result.{result_err};
+ghost use Rattle.pipeline.specs.Channels.{line_at, SameLoans};
 ghost use Rattle.writer.specs.Recovering.{failed_on, left_of, gone_of, beyond, wants, Replaces, ChoosesIf, Ready};
 ghost use Rattle.writer.specs.Views.{view_of};
 
@@ -11,7 +12,8 @@ use crate::state::kind::State;
 use ack::tally::FailedNodes;
 use chain::link::Link;
 use namenode::protocol::NamenodeProtocol;
-use pipeline::add_datanode::{NoDatanode, add_datanode};
+use pipeline::add_datanode::NoDatanode;
+use pipeline::channel::Channel;
 use pipeline::nodes::NodeTable;
 use pipeline::survivors::split;
 use replace::datanode::ReplaceDatanodeOnFailure;
@@ -60,22 +62,19 @@ impl Writer {
     // Has a datanode added to those that are left, if the namenode has one and it gets a copy; best effort goes on without.
     fn replace_failed<L: Link, N: NamenodeProtocol>(
         &mut self,
-        link: &mut L,
+        channel: &mut Channel<'_, L>,
         namenode: &mut N,
-        request: &mut [u8],
-        answer: &mut [u8],
     ) -> Result<Option<(usize, usize)>, NoDatanode>
         requires rows_value { self.old.chosen.rows.items ≡ left_of (view_of self.old) }
         requires rows_value_2 { self.old.gone.rows.items ≡ gone_of (view_of self.old) }
-        requires in_bounds { 4096 ≤ length request.old }
         requires some_left { 1 ≤ length self.old.chosen.rows.items }
-        ensures acts { Replaces L.Link.transfers N.NamenodeProtocol.lists (view_of self.old) (record { link = link.entry.now; request = request.old; answer = answer.old }) namenode.old result self.new.chosen.rows.items (record { link = link.exit.now; request = request.new; answer = answer.new }) namenode.new }
+        ensures acts { Replaces L.Link.transfers N.NamenodeProtocol.lists (view_of self.old) (line_at channel.old) namenode.old result self.new.chosen.rows.items (line_at channel.new) namenode.new }
+        ensures same { SameLoans channel.old channel.new }
         ensures view { view_of self.new ≡ view_of self.old }
         ensures some { 1 ≤ length self.new.chosen.rows.items }
     {
         let block = self.block();
-        let added = add_datanode(
-            link,
+        let added = channel.add_datanode(
             namenode,
             block,
             &self.terms.client_name,
@@ -83,8 +82,6 @@ impl Writer {
             self.chosen.as_slice(),
             self.gone.as_slice(),
             &mut self.offered,
-            request,
-            answer,
         );
         match added {
             Ok(places) => {
@@ -104,16 +101,14 @@ impl Writer {
     /// The pipeline to go on with, in `chosen`, and the positions of a datanode that was added and its source.
     pub(crate) fn choose_pipeline<L: Link, N: NamenodeProtocol>(
         &mut self,
-        link: &mut L,
+        channel: &mut Channel<'_, L>,
         namenode: &mut N,
-        request: &mut [u8],
-        answer: &mut [u8],
     ) -> Result<Option<(usize, usize)>, NoDatanode>
         requires rows_value { self.old.chosen.rows.items ≡ left_of (view_of self.old) }
         requires rows_value_2 { self.old.gone.rows.items ≡ gone_of (view_of self.old) }
-        requires in_bounds { 4096 ≤ length request.old }
         requires some_left { 1 ≤ length self.old.chosen.rows.items }
-        ensures acts { ChoosesIf L.Link.transfers N.NamenodeProtocol.lists (wants (view_of self.old)) (view_of self.old) (record { link = link.entry.now; request = request.old; answer = answer.old }) namenode.old result self.new.chosen.rows.items (record { link = link.exit.now; request = request.new; answer = answer.new }) namenode.new }
+        ensures acts { ChoosesIf L.Link.transfers N.NamenodeProtocol.lists (wants (view_of self.old)) (view_of self.old) (line_at channel.old) namenode.old result self.new.chosen.rows.items (line_at channel.new) namenode.new }
+        ensures same { SameLoans channel.old channel.new }
         ensures view { view_of self.new ≡ view_of self.old }
         ensures some { 1 ≤ length self.new.chosen.rows.items }
     {
@@ -125,6 +120,6 @@ impl Writer {
         {
             return Ok(None);
         }
-        self.replace_failed(link, namenode, request, answer)
+        self.replace_failed(channel, namenode)
     }
 }

@@ -1,7 +1,7 @@
 use Rattle.std.proofs.Common.{◌-◌, arith}
 use Rattle.pipeline.specs.SetUps.{octets_of}
 use Rattle.pipeline.proofs.Asking.{stands, long, whole, asked_with}
-use Rattle.pipeline.proofs.set_up.set_up.Goals as goal
+use Rattle.pipeline.proofs.set_up.send_set_up.Goals as goal
 
 pub returns : goal.returns
 returns g c =

@@ -2,7 +2,7 @@ use Rattle.std.proofs.Common.{◌-◌, refl, arith}
 use Rattle.request.specs.declared.transfer_block.TransferBlock.{TransferBlock}
 use Rattle.pipeline.specs.Transfers.{copy_octets}
 use Rattle.pipeline.proofs.Asking.{stands, long, whole, asked_with}
-use Rattle.pipeline.proofs.transfer.transfer.Goals as goal
+use Rattle.pipeline.proofs.transfer.send_transfer.Goals as goal
 
 pub returns : goal.returns
 returns g c =

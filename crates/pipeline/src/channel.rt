@@ -1,0 +1,11 @@
+//! A link with the two buffers of a request and its response.
+ghost use Rattle.std.specs.Prelude.{◌≡◌, ◌≤◌, length};
+
+/// A link, a buffer that every request fits, and one for the response.
+#[derive(Drop)]
+pub struct Channel<'a, L> {
+    pub link: &'a mut L,
+    pub request: &'a mut [u8],
+    pub answer: &'a mut [u8],
+    ghost room: { 4096 ≤ length request.now },
+}
