@@ -1,5 +1,5 @@
 -- What a namenode with spare datanodes answers, and what it holds after. Assumes nothing.
-use Rattle.std.specs.Prelude.{◌≡◌, ℕ, Bool, cond, List, [], ◌∷◌, ◌++◌, map, length, Some, None, vec_items, Option, nat_le}
+use Rattle.std.specs.Prelude.{◌≡◌, ℕ, Bool, cond, not, List, [], ◌∷◌, ◌++◌, map, length, Some, None, find, vec_items, Option, nat_le}
 use Rattle.proto.specs.declared.datanode.Datanode.{Datanode}
 use Rattle.proto.specs.Messages.{held, info_of}
 use Rattle.replace.specs.Choice.{any_same}
@@ -28,8 +28,7 @@ offer_of v = record { rows = map row_for v.offered; token = v.book.token }
 
 -- the first spare whose ip and port none of the old datanodes has
 abbrev pub first_spare : List Datanode → List Datanode → Option Datanode
-first_spare [] old = None
-first_spare (s ∷ ss) old = cond (any_same old s) (first_spare ss old) (Some s)
+first_spare spares old = find (λ s. not (any_same old s)) spares
 
 abbrev pub with_spare : List Datanode → Option Datanode → Option (List Datanode)
 with_spare survivors (Some s) = Some (survivors ++ s ∷ [])

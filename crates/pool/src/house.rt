@@ -7,7 +7,7 @@ ghost use Rattle.std.proofs.Common.{rules};
 
 use crate::book::Book;
 use namenode::meaning::Namenode;
-use namenode::protocol::{NamenodeProtocol, Offered};
+use namenode::protocol::{NamenodeProtocol, Offered, Refused};
 use proto::datanode::Datanode;
 use proto::token::Token;
 use std::alloc::{AllocError, Global};
@@ -50,8 +50,8 @@ impl NamenodeProtocol for House {
         _size: u64,
         _survivors: &[Datanode],
         _failed: &[Datanode],
-    ) -> bool {
-        false
+    ) -> Result<(), Refused> {
+        Err(Refused)
     }
 
     fn offered_len(&self) -> usize {
@@ -66,15 +66,20 @@ impl NamenodeProtocol for House {
         self.book.token()
     }
 
-    fn update_block_for_pipeline(&mut self, _size: u64) -> Option<u64> {
-        self.book.next_stamp()
+    fn update_block_for_pipeline(&mut self, _size: u64) -> Result<u64, Refused> {
+        self.book.next_stamp().ok_or(Refused)
     }
 
     fn stamp_token(&self) -> &[u8] {
         self.book.token()
     }
 
-    fn update_pipeline(&mut self, stamp: u64, size: u64, nodes: &[Datanode]) -> bool {
+    fn update_pipeline(
+        &mut self,
+        stamp: u64,
+        size: u64,
+        nodes: &[Datanode],
+    ) -> Result<(), Refused> {
         self.book.update(stamp, size, nodes)
     }
 }
@@ -97,12 +102,10 @@ mod tests {
     #[test]
     fn no_datanode_is_offered(rt: HostRuntime) -> Result<(), Fail> {
         let message = [0x0a, 0, 0x12, 0, 0x1a, 0, 0x22, 0];
-        let Some(token) = Token::new(&message) else {
-            return Err(Fail::new("not in form"));
-        };
+        let token = Token::new(&message).ok_or("not in form")?;
         let mut house = House::new(rt.alloc(), 7, 0, &[], token)?;
-        assert!(rt; !house.get_additional_datanode(0, &[], &[]));
-        assert!(rt; house.update_block_for_pipeline(0) == Some(8));
+        assert!(rt; house.get_additional_datanode(0, &[], &[]) == Err(Refused));
+        assert!(rt; house.update_block_for_pipeline(0) == Ok(8));
         assert!(rt; house.stamp_token() == message.as_slice());
         Ok(())
     }

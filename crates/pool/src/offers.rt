@@ -1,5 +1,5 @@
 //! How a pool is made, and the list that it offers.
-ghost use Rattle.std.specs.Prelude.{◌≡◌, [], ◌++◌, is_some, IfOk};
+ghost use Rattle.std.specs.Prelude.{◌≡◌, [], ◌++◌, is_ok, is_some, IfOk};
 ghost use Rattle.proto.specs.Messages.{held};
 ghost use Rattle.replace.specs.Choice.{any_same};
 ghost use Rattle.namenode.specs.Entries.{entry_for};
@@ -8,6 +8,7 @@ ghost use Rattle.pool.specs.Pools.{pool_of, first_spare, list_for, listed};
 use crate::book::{Book, PLACES};
 use crate::keeping::refill;
 use crate::pool::Pool;
+use namenode::protocol::Refused;
 use proto::datanode::Datanode;
 use proto::token::Token;
 use replace::choice::any_same;
@@ -24,12 +25,10 @@ fn is_old(survivors: &[Datanode], failed: &[Datanode], node: &Datanode) -> bool
 fn first_spare(spares: &[Datanode], survivors: &[Datanode], failed: &[Datanode]) -> Option<Datanode>
     ensures { result ≡ first_spare spares.now (survivors.now ++ failed.now) }
 {
-    for spare in spares {
-        if !is_old(survivors, failed, spare) {
-            return Some(*spare);
-        }
-    }
-    None
+    spares
+        .iter()
+        .find(|spare| !is_old(survivors, failed, spare))
+        .copied()
 }
 
 impl Pool {
@@ -56,18 +55,20 @@ impl Pool {
     }
 
     // Offers the survivors and a spare, where there is room for them and a spare that is new.
-    pub(crate) fn list(&mut self, survivors: &[Datanode], failed: &[Datanode]) -> bool
-        ensures answer { result ≡ is_some (list_for (pool_of self.old).spares survivors.now failed.now) }
+    pub(crate) fn list(
+        &mut self,
+        survivors: &[Datanode],
+        failed: &[Datanode],
+    ) -> Result<(), Refused>
+        ensures answer { is_ok result ≡ is_some (list_for (pool_of self.old).spares survivors.now failed.now) }
         ensures after { pool_of self.new ≡ listed (pool_of self.old) (list_for (pool_of self.old).spares survivors.now failed.now) }
     {
         if survivors.len() > PLACES {
-            return false;
+            return Err(Refused);
         }
-        let Some(spare) = first_spare(&self.spares, survivors, failed) else {
-            return false;
-        };
+        let spare = first_spare(&self.spares, survivors, failed).ok_or(Refused)?;
         refill(&mut self.offered, survivors);
         let _ = self.offered.push(spare);
-        true
+        Ok(())
     }
 }

@@ -6,7 +6,7 @@ ghost use Rattle.std.proofs.Common.{rules};
 
 use crate::pool::Pool;
 use namenode::meaning::Namenode;
-use namenode::protocol::{NamenodeProtocol, Offered};
+use namenode::protocol::{NamenodeProtocol, Offered, Refused};
 use proto::datanode::Datanode;
 
 // A datanode as it is handed out.
@@ -36,7 +36,7 @@ impl NamenodeProtocol for Pool {
         _size: u64,
         survivors: &[Datanode],
         failed: &[Datanode],
-    ) -> bool {
+    ) -> Result<(), Refused> {
         self.list(survivors, failed)
     }
 
@@ -45,25 +45,27 @@ impl NamenodeProtocol for Pool {
     }
 
     fn offered(&self, position: usize) -> Option<Offered<'_>> {
-        if position >= self.offered.len() {
-            return None;
-        }
-        Some(hand_out(&self.offered[position]))
+        Some(hand_out(self.offered.get(position)?))
     }
 
     fn offered_token(&self) -> &[u8] {
         self.book.token()
     }
 
-    fn update_block_for_pipeline(&mut self, _size: u64) -> Option<u64> {
-        self.book.next_stamp()
+    fn update_block_for_pipeline(&mut self, _size: u64) -> Result<u64, Refused> {
+        self.book.next_stamp().ok_or(Refused)
     }
 
     fn stamp_token(&self) -> &[u8] {
         self.book.token()
     }
 
-    fn update_pipeline(&mut self, stamp: u64, size: u64, nodes: &[Datanode]) -> bool {
+    fn update_pipeline(
+        &mut self,
+        stamp: u64,
+        size: u64,
+        nodes: &[Datanode],
+    ) -> Result<(), Refused> {
         self.book.update(stamp, size, nodes)
     }
 }
@@ -88,28 +90,23 @@ mod tests {
         let info = [
             0x0a, 15, 0x0a, 1, ip, 0x12, 1, b'h', 0x1a, 1, b'u', 0x20, 9, 0x28, 0, 0x30, 0,
         ];
-        match Datanode::new(&info, b"DS-1", 1) {
-            Some(node) => Ok(node),
-            None => Err(Fail::new("not in form")),
-        }
+        Datanode::new(&info, b"DS-1", 1).ok_or(Fail::new("not in form"))
     }
 
     fn token() -> Result<Token, Fail> {
-        match Token::new(&[0x0a, 0, 0x12, 0, 0x1a, 0, 0x22, 0]) {
-            Some(token) => Ok(token),
-            None => Err(Fail::new("not in form")),
-        }
+        let message = [0x0a, 0, 0x12, 0, 0x1a, 0, 0x22, 0];
+        Token::new(&message).ok_or(Fail::new("not in form"))
     }
 
     #[test]
     fn first_new_spare_is_offered(rt: HostRuntime) -> Result<(), Fail> {
         let (a, b, c) = (node(b'a')?, node(b'b')?, node(b'c')?);
         let mut pool = Pool::new(rt.alloc(), 1, 0, &[a, b], token()?, &[b, c])?;
-        assert!(rt; pool.get_additional_datanode(0, &[a], &[b]));
+        assert!(rt; pool.get_additional_datanode(0, &[a], &[b]) == Ok(()));
         assert!(rt; pool.offered_len() == 2);
         let last = pool.offered(1).ok_or("no row")?;
         assert!(rt; last.info == c.info());
-        assert!(rt; !pool.get_additional_datanode(0, &[a, c], &[b]));
+        assert!(rt; pool.get_additional_datanode(0, &[a, c], &[b]) == Err(Refused));
         Ok(())
     }
 
@@ -117,10 +114,10 @@ mod tests {
     fn stamp_follows_the_entry(rt: HostRuntime) -> Result<(), Fail> {
         let a = node(b'a')?;
         let mut pool = Pool::new(rt.alloc(), 1001, 0, &[a], token()?, &[])?;
-        assert!(rt; pool.update_block_for_pipeline(5) == Some(1002));
-        assert!(rt; pool.update_pipeline(u64::MAX, 5, &[a]));
-        assert!(rt; pool.update_block_for_pipeline(5) == None);
-        assert!(rt; !pool.update_pipeline(7, 5, &[a, a, a, a, a, a, a, a, a]));
+        assert!(rt; pool.update_block_for_pipeline(5) == Ok(1002));
+        assert!(rt; pool.update_pipeline(u64::MAX, 5, &[a]) == Ok(()));
+        assert!(rt; pool.update_block_for_pipeline(5) == Err(Refused));
+        assert!(rt; pool.update_pipeline(7, 5, &[a, a, a, a, a, a, a, a, a]) == Err(Refused));
         Ok(())
     }
 }
