@@ -90,12 +90,12 @@ mod tests {
         let info = [
             0x0a, 15, 0x0a, 1, ip, 0x12, 1, b'h', 0x1a, 1, b'u', 0x20, 9, 0x28, 0, 0x30, 0,
         ];
-        Datanode::new(&info, b"DS-1", 1).ok_or(Fail::new("not in form"))
+        Ok(Datanode::new(&info, b"DS-1", 1).ok_or("not in form")?)
     }
 
     fn token() -> Result<Token, Fail> {
         let message = [0x0a, 0, 0x12, 0, 0x1a, 0, 0x22, 0];
-        Token::new(&message).ok_or(Fail::new("not in form"))
+        Ok(Token::new(&message).ok_or("not in form")?)
     }
 
     #[test]
