@@ -2,7 +2,7 @@ use Rattle.std.proofs.Common.{not, ◌++◌, rules, tests, ◌∙◌}
 use Rattle.std.proofs.lemmas.Iterator.{YieldsList-from_slice}
 use Rattle.std.proofs.lemmas.Iterator.Search.{find_from_yields_List}
 use Rattle.replace.specs.Choice.{any_same}
-use Rattle.pool.proofs.offers.first_spare.Goals as goal
+use Rattle.pool.proofs.choosing.first_spare.Goals as goal
 
 pub returns : goal.returns
 returns c =
