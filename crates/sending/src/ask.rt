@@ -37,8 +37,8 @@ impl From<DecodeError> for AskError {
 impl fmt::Display for AskError {
     fn fmt<W: fmt::Write>(&self, f: &mut fmt::Formatter<W>) -> fmt::Result {
         match self {
-            AskError::Lost => write!(f, "the link is lost"),
-            AskError::Undecodable(_) => write!(f, "an answer cannot be read"),
+            Self::Lost => write!(f, "the link is lost"),
+            Self::Undecodable(_) => write!(f, "an answer cannot be read"),
         }
     }
 }

@@ -24,9 +24,9 @@ pub enum SendError {
 impl fmt::Display for SendError {
     fn fmt<W: fmt::Write>(&self, f: &mut fmt::Formatter<W>) -> fmt::Result {
         match self {
-            SendError::Unframed => write!(f, "a packet does not fit into its frame"),
-            SendError::Unsent => write!(f, "a frame was lost"),
-            SendError::Unheard(error) => write!(f, "{error}"),
+            Self::Unframed => write!(f, "a packet does not fit into its frame"),
+            Self::Unsent => write!(f, "a frame was lost"),
+            Self::Unheard(error) => write!(f, "{error}"),
         }
     }
 }
