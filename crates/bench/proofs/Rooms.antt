@@ -1,22 +1,8 @@
 -- One turn of the loops over replicas. Assumes nothing.
-use Rattle.std.proofs.Common.{◌≡◌, ℕ, zero, suc, ◌+◌, ◌<◌, ◌≤◌, true, false, ◌&&◌, leb, List, [], ◌∷◌, ◌++◌, map, length, get_or, take, drop, set, vec_items, vec_len, vec_capacity, sym, ap, ◌∙◌, add-zero, arith, length-set}
-use Rattle.std.proofs.lemmas.List.{at_drop_more, at_drop_all, take_more, take_more_set, map-append, drop-drop, drop-set-lt, get_or-drop}
+use Rattle.std.proofs.Common.{◌≡◌, ℕ, zero, suc, ◌+◌, ◌<◌, ◌≤◌, true, leb, List, [], ◌∷◌, ◌++◌, map, length, get_or, take, drop, set, vec_items, vec_len, vec_capacity, sym, ap, ◌∙◌, add-zero, arith}
+use Rattle.std.proofs.lemmas.List.{take_more, take_more_set, map-append, drop-drop, drop-set-lt, get_or-drop}
 use Rattle.std.proofs.lemmas.Bool.{and_parts, leb-true}
 use Rattle.bench.specs.Replicas.{Bytes, copies, roomy}
-
--- x stands at place i
-module _ (vs : List Bytes) (n i : ℕ) (x : Bytes) (h : i < length vs) (e : x ≡ get_or vs i x) where
-  here : roomy n (drop i vs) ≡ (leb (vec_len x + n) (vec_capacity x) && roomy n (drop (i + 1) vs))
-  here = at_drop_more (roomy n) vs i x h ∙ ap (λ z. leb (vec_len z + n) (vec_capacity z) && roomy n (drop (i + 1) vs)) (sym e)
-
-  pub room_on : true ≡ leb (vec_len x + n) (vec_capacity x) → roomy n (drop (i + 1) vs) ≡ roomy n (drop i vs)
-  room_on q = sym (here ∙ ap (λ z. z && roomy n (drop (i + 1) vs)) (sym q))
-
-  pub room_off : false ≡ leb (vec_len x + n) (vec_capacity x) → false ≡ roomy n (drop i vs)
-  room_off q = sym (here ∙ ap (λ z. z && roomy n (drop (i + 1) vs)) (sym q))
-
-pub room_all : (vs : List Bytes) (n i : ℕ) → length vs ≤ i → true ≡ roomy n (drop i vs)
-room_all vs n i h = sym (at_drop_all (roomy n) vs i h)
 
 pub room_at : (vs : List Bytes) (n i : ℕ) (x : Bytes) → roomy n vs ≡ true → i < length vs → x ≡ get_or vs i x → vec_len x + n ≤ vec_capacity x
 room_at [] n i x r h e = absurd (omega arith)
@@ -47,6 +33,3 @@ module _ (rs es : List Bytes) (more : List ℕ) (i : ℕ) (x v : Bytes)
 
   pub kept_left : drop (i + 1) (set rs i v) ≡ drop (i + 1) es
   kept_left = drop-set-lt (i + 1) rs i v (omega arith) ∙ sym (drop-drop 1 i rs) ∙ ap (drop 1) left ∙ drop-drop 1 i es
-
-  pub kept_long : length (set rs i v) ≡ length es
-  kept_long = length-set rs i v ∙ long

@@ -9,12 +9,13 @@ ghost use Rattle.bench.specs.Mirrors.{lost_put};
 
 use crate::replicas::{append_all, copies_of, has_room};
 use crate::state::Bench;
-use chain::link::{Link, Next};
+use chain::link::{Link, LinkLost};
 use chain::meaning::Chain;
 use packet::header::HEART_BEAT_SEQNO;
 use packet::read::read_frame;
 use proto::datanode::Datanode;
 use request::setup::Setup;
+use spool::state::NODES;
 
 impl Link for Bench {
     ghost sets = { λ a node request least came b. Sets (view_of a.lead) request least came (view_of b.lead) };
@@ -31,51 +32,44 @@ impl Link for Bench {
         request: &[u8],
         least: u64,
         answer: &mut [u8],
-    ) -> Option<usize> {
-        let Some(setup) = Setup::read(request) else {
-            return None;
-        };
+    ) -> Result<usize, LinkLost> {
+        let setup = Setup::read(request).ok_or(LinkLost)?;
         let kept = self.lead.kept();
-        if setup.pipeline_size == 0 || setup.pipeline_size > 8 || least > kept.len() as u64 {
-            return None;
+        if setup.pipeline_size == 0 || setup.pipeline_size > NODES || least > kept.len() as u64 {
+            return Err(LinkLost);
         }
         let others = setup.pipeline_size as usize - 1;
-        let Some(mirrors) = copies_of(
-            self.heap,
-            &kept[0..least as usize],
-            others,
-            self.lead.limit(),
-        ) else {
-            return None;
-        };
-        let Some(n) = self.lead.set_up(node, request, least, answer) else {
-            return None;
-        };
+        let least_kept = &kept[0..least as usize];
+        let mirrors = copies_of(self.heap, least_kept, others, self.lead.limit()).map_err(
+            |_| LinkLost,
+        )?;
+        let len = self.lead.set_up(node, request, least, answer)?;
         self.mirrors = mirrors;
-        Some(n)
+        Ok(len)
     }
 
-    fn put(&mut self, frame: &[u8]) -> bool {
-        let Some(packet) = read_frame(frame) else {
-            return false;
-        };
-        if !has_room(self.mirrors.as_slice(), packet.data.len()) {
-            return false;
+    fn put(&mut self, frame: &[u8]) -> Result<(), LinkLost> {
+        let packet = read_frame(frame).ok_or(LinkLost)?;
+        if !has_room(&self.mirrors, packet.data.len()) {
+            return Err(LinkLost);
         }
-        if !self.lead.put(frame) {
-            return false;
-        }
+        self.lead.put(frame)?;
         if packet.seqno != HEART_BEAT_SEQNO {
-            append_all(self.mirrors.as_mut_slice(), packet.data);
+            append_all(&mut self.mirrors, packet.data);
         }
-        true
+        Ok(())
     }
 
-    fn next(&mut self, answer: &mut [u8]) -> Next {
+    fn next(&mut self, answer: &mut [u8]) -> Result<Option<usize>, LinkLost> {
         self.lead.next(answer)
     }
 
-    fn transfer(&mut self, node: &Datanode, request: &[u8], answer: &mut [u8]) -> Option<usize> {
+    fn transfer(
+        &mut self,
+        node: &Datanode,
+        request: &[u8],
+        answer: &mut [u8],
+    ) -> Result<usize, LinkLost> {
         self.lead.transfer(node, request, answer)
     }
 }

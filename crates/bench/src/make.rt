@@ -4,7 +4,7 @@ ghost use Rattle.spool.specs.Spools.{view_of, fresh};
 ghost use Rattle.bench.specs.Replicas.{copies};
 
 use crate::state::Bench;
-use spool::state::Spool;
+use spool::state::{NODES, Spool};
 use std::alloc::{AllocError, Global};
 
 impl Bench {
@@ -12,7 +12,7 @@ impl Bench {
     pub fn over(heap: Global, buffer: Vec<u8>) -> Result<Bench, AllocError>
         ensures { IfOk result (λ s. (view_of s.lead ≡ fresh buffer.items (vec_capacity buffer) 8) × (s.mirrors.items ≡ [])) }
     {
-        let lead = Spool::first_of_eight(heap, buffer)?;
+        let lead = Spool::over(heap, buffer, NODES)?;
         Ok(Bench {
             lead,
             mirrors: Vec::new(heap),

@@ -30,9 +30,7 @@ impl Bench {
     pub fn replica(&self, i: usize) -> Option<&[u8]>
         ensures { elim result [ Some x ↦ (i < length self.now.mirrors.items) × (x.now ≡ (view_of self.now.lead).bytes) | None ↦ length self.now.mirrors.items ≤ i ] }
     {
-        if i >= self.mirrors.len() {
-            return None;
-        }
-        Some(self.mirrors[i].as_slice())
+        let replica = self.mirrors.get(i)?;
+        Some(replica.as_slice())
     }
 }

@@ -15,25 +15,18 @@ const NODE: &[u8] =
 const TOKEN: &[u8] = b"\x0a\x05\x01\x01\x01\x01\x01\x12\x03pw1\x1a\x10HDFS_BLOCK_TOKEN\x22\x03svc";
 
 pub fn node() -> Result<Datanode, Fail> {
-    let Some(node) = Datanode::new(NODE, b"DS-1", 1) else {
-        return Err(Fail::new("the datanode is not in form"));
-    };
-    Ok(node)
+    Ok(Datanode::new(NODE, b"DS-1", 1).ok_or("the datanode is not in form")?)
 }
 
 /// A request for a pipeline of one node and `others` more, over chunks of four bytes.
 pub fn request(others: usize, out: &mut [u8]) -> Result<usize, Fail> {
     let node = node()?;
     let all = [node; 7];
-    if others > 7 {
-        return Err(Fail::new("a pipeline has at most eight nodes"));
-    }
-    let Some(token) = Token::new(TOKEN) else {
-        return Err(Fail::new("the token is not in form"));
-    };
-    let Some(name) = Fixed::copy_of(b"name") else {
-        return Err(Fail::new("the text is too long"));
-    };
+    let targets = all
+        .get(0..others)
+        .ok_or("a pipeline has at most eight nodes")?;
+    let token = Token::new(TOKEN).ok_or("the token is not in form")?;
+    let name = Fixed::copy_of(b"name").ok_or("the text is too long")?;
     let block = ExtendedBlock {
         pool_id: name,
         block_id: 1,
@@ -45,7 +38,7 @@ pub fn request(others: usize, out: &mut [u8]) -> Result<usize, Fail> {
         token: &token,
         client_name: &name,
     };
-    write_request(header, &node, &all[0..others], out)
+    write_request(header, &node, targets, out)
 }
 
 fn write_request<'a>(
@@ -67,10 +60,7 @@ fn write_request<'a>(
         latest_stamp: 1001,
         chunk_size: 4,
     };
-    match send(&request, out) {
-        Some(n) => Ok(n),
-        None => Err(Fail::new("the request does not fit")),
-    }
+    Ok(send(&request, out).ok_or("the request does not fit")?)
 }
 
 /// The frame of a packet over chunks of four bytes.
@@ -81,8 +71,5 @@ pub fn frame(offset: u64, seqno: u64, data: &[u8], out: &mut [u8]) -> Result<usi
         last: false,
         data,
     };
-    match write_frame(out, packet, 4) {
-        Some(n) => Ok(n),
-        None => Err(Fail::new("the frame does not fit")),
-    }
+    Ok(write_frame(out, packet, 4).ok_or("the frame does not fit")?)
 }

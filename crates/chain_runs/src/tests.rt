@@ -1,7 +1,7 @@
 //! Each call once as it should be, and once lost for each reason there is.
 use crate::sample::{frame, node, request};
 use bench::state::Bench;
-use chain::link::{Link, Next};
+use chain::link::{Link, LinkLost};
 use packet::header::HEART_BEAT_SEQNO;
 use spool::state::Spool;
 use std::process::Abort;
@@ -15,24 +15,30 @@ fn set_up<L: Link>(rt: &impl Abort, link: &mut L, others: usize) -> Result<(), F
     assert!(rt; n <= 1024);
     let mut answer = [7u8; 4];
     let unreadable = link.set_up(&node, b"none", 0, &mut answer);
-    assert_eq!(rt; unreadable, None);
+    assert_eq!(rt; unreadable, Err(LinkLost));
     let mut short = [7u8; 1];
-    assert_eq!(rt; link.set_up(&node, &asked[0..n], 0, &mut short), None);
-    assert_eq!(rt; link.set_up(&node, &asked[0..n], 1, &mut answer), None);
+    assert_eq!(rt;
+        link.set_up(&node, &asked[0..n], 0, &mut short),
+        Err(LinkLost)
+    );
+    assert_eq!(rt;
+        link.set_up(&node, &asked[0..n], 1, &mut answer),
+        Err(LinkLost)
+    );
     assert_eq!(rt; answer, [7, 7, 7, 7]);
-    assert_eq!(rt; link.set_up(&node, &asked[0..n], 0, &mut answer), Some(2));
+    assert_eq!(rt; link.set_up(&node, &asked[0..n], 0, &mut answer), Ok(2));
     assert_eq!(rt; answer, [8, 0, 7, 7]);
     Ok(())
 }
 
-// A packet put, and whether it was taken.
+// A packet put, and what the link answers.
 fn put<L: Link>(
     rt: &impl Abort,
     link: &mut L,
     offset: u64,
     seqno: u64,
     data: &[u8],
-) -> Result<bool, Fail> {
+) -> Result<Result<(), LinkLost>, Fail> {
     let mut room = [0u8; 128];
     let n = frame(offset, seqno, data, &mut room)?;
     assert!(rt; n <= 128);
@@ -41,38 +47,42 @@ fn put<L: Link>(
 
 // No frame, another place, wrong sums, a heartbeat, and two packets as they should be.
 fn puts<L: Link>(rt: &impl Abort, link: &mut L) -> Result<(), Fail> {
-    assert!(rt; !link.put(b"no frame"));
-    assert!(rt; !put(rt, link, 4, 0, b"abcd")?);
+    assert_eq!(rt; link.put(b"no frame"), Err(LinkLost));
+    assert_eq!(rt; put(rt, link, 4, 0, b"abcd")?, Err(LinkLost));
     let mut room = [0u8; 128];
     let n = frame(0, 0, b"abcd", &mut room)?;
     assert!(rt; n == 39);
     room[38] = b'e';
-    assert!(rt; !link.put(&room[0..39]));
-    assert!(rt; put(rt, link, 0, HEART_BEAT_SEQNO, b"")?);
-    assert!(rt; put(rt, link, 0, 0, b"abcd")?);
-    assert!(rt; put(rt, link, 4, 1, b"ef")?);
+    assert_eq!(rt; link.put(&room[0..39]), Err(LinkLost));
+    assert_eq!(rt; put(rt, link, 0, HEART_BEAT_SEQNO, b"")?, Ok(()));
+    assert_eq!(rt; put(rt, link, 0, 0, b"abcd")?, Ok(()));
+    assert_eq!(rt; put(rt, link, 4, 1, b"ef")?, Ok(()));
     Ok(())
 }
 
 // The answers of two packets, the first of them lost once for want of room, and then none.
 fn answers<L: Link>(rt: &impl Abort, link: &mut L, octets: usize) {
     let mut short = [0u8; 3];
-    assert_eq!(rt; link.next(&mut short), Next::Lost);
+    assert_eq!(rt; link.next(&mut short), Err(LinkLost));
     let mut answer = [0u8; 64];
-    assert_eq!(rt; link.next(&mut answer), Next::Answer(octets));
+    assert_eq!(rt; link.next(&mut answer), Ok(Some(octets)));
     assert_eq!(rt; answer[1], 0);
-    assert_eq!(rt; link.next(&mut answer), Next::Answer(octets));
+    assert_eq!(rt; link.next(&mut answer), Ok(Some(octets)));
     assert_eq!(rt; answer[1], 2);
-    assert_eq!(rt; link.next(&mut answer), Next::Nothing);
+    assert_eq!(rt; link.next(&mut answer), Ok(None));
 }
 
 #[test]
 fn a_spool(rt: HostRuntime) -> Result<(), Fail> {
     let heap = rt.alloc();
-    let mut spool = Spool::over(heap, Vec::with_capacity(heap, 8)?)?;
+    let mut spool = Spool::over(heap, Vec::with_capacity(heap, 8)?, 1)?;
     set_up(&rt, &mut spool, 0)?;
     puts(&rt, &mut spool)?;
-    assert!(rt; !put(&rt, &mut spool, 6, 2, b"ghi")?, "the memory is full");
+    assert_eq!(rt;
+        put(&rt, &mut spool, 6, 2, b"ghi")?,
+        Err(LinkLost),
+        "the memory is full"
+    );
     assert_eq!(rt; spool.pending(), 2);
     assert!(rt; spool.kept().is_empty());
     answers(&rt, &mut spool, 4);
@@ -83,7 +93,7 @@ fn a_spool(rt: HostRuntime) -> Result<(), Fail> {
     let mut answer = [0u8; 4];
     assert_eq!(rt;
         spool.set_up(&node()?, &large[0..n], 0, &mut answer),
-        None,
+        Err(LinkLost),
         "it has one node"
     );
     Ok(())
@@ -95,13 +105,15 @@ fn a_bench(rt: HostRuntime) -> Result<(), Fail> {
     let mut bench = Bench::over(heap, Vec::with_capacity(heap, 8)?)?;
     set_up(&rt, &mut bench, 2)?;
     puts(&rt, &mut bench)?;
-    assert!(rt; !put(&rt, &mut bench, 6, 2, b"ghi")?, "the memory is full");
+    assert_eq!(rt;
+        put(&rt, &mut bench, 6, 2, b"ghi")?,
+        Err(LinkLost),
+        "the memory is full"
+    );
     assert_eq!(rt; bench.replicas(), 2);
     answers(&rt, &mut bench, 8);
     assert!(rt; bench.kept() == b"abcdef".as_slice());
-    let Some(second) = bench.replica(0) else {
-        return Err(Fail::new("there is no second replica"));
-    };
+    let second = bench.replica(0).ok_or("there is no second replica")?;
     assert!(rt; second == b"abcdef".as_slice());
     assert!(rt; bench.replica(2).is_none());
     Ok(())

@@ -2,7 +2,7 @@
 use Rattle.std.proofs.Common.{◌≡◌, ℕ, zero, suc, ◌<◌, ◌≤◌, List, [], ◌∷◌, map, length, get_or, Some, None, refl, arith}
 use Rattle.proto.specs.declared.datanode.Datanode.{Datanode}
 use Rattle.namenode.specs.Entries.{row_at}
-use Rattle.pool.specs.Pools.{row_for}
+use Rattle.pool.specs.Books.{row_for}
 
 pub row_at_lem : (ds : List Datanode) (i : ℕ) (d : Datanode) → i < length ds → row_at (map row_for ds) i ≡ Some (row_for (get_or ds i d))
 row_at_lem [] i d h = absurd (omega arith)

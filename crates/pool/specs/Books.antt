@@ -1,7 +1,8 @@
 -- The entry that a namenode in memory keeps, with its token, and what a request makes of it. Assumes nothing.
-use Rattle.std.specs.Prelude.{ℕ, ◌+◌, ◌-◌, ◌^◌, Bool, cond, List, length, Some, None, vec_items, Option, ◌==◌, nat_le}
-use Rattle.proto.specs.Messages.{held}
-use Rattle.namenode.specs.Entries.{Entry, entry_for}
+use Rattle.std.specs.Prelude.{ℕ, ◌+◌, ◌-◌, ◌^◌, Bool, cond, List, map, length, Some, None, vec_items, Option, ◌==◌, nat_le}
+use Rattle.proto.specs.declared.datanode.Datanode.{Datanode}
+use Rattle.proto.specs.Messages.{held, info_of}
+use Rattle.namenode.specs.Entries.{Entry, Row, Offer, entry_for}
 use Rattle.pool.specs.declared.book.Book.{Book}
 
 -- a book by its contents
@@ -29,3 +30,11 @@ accepts new = room_for new.ids
 
 abbrev pub with_entry : View → Entry → View
 with_entry v new = record { entry = new; token = v.token }
+
+-- a datanode as it is handed out
+abbrev pub row_for : Datanode → Row
+row_for d = record { info = info_of d; storage = held d.storage_id; kind = d.storage_type }
+
+-- a list as it is handed out, with the token
+abbrev pub offer_with : List ℕ → List Datanode → Offer
+offer_with token nodes = record { rows = map row_for nodes; token = token }

@@ -1,10 +1,11 @@
 -- What a namenode without spare datanodes answers, and what it holds after. Assumes nothing.
 use Rattle.std.specs.Prelude.{◌≡◌, ℕ, Bool, cond, List, [], None, Option}
 use Rattle.namenode.specs.Entries.{Entry, Offer}
-use Rattle.pool.specs.declared.house.House.{House}
+use Rattle.pool.specs.declared.memory.MemoryNamenode.{MemoryNamenode}
+use Rattle.pool.specs.declared.spares.NoSpares.{NoSpares}
 use Rattle.pool.specs.Books.{View, book_of, stamp_after, with_token, accepts, with_entry}
 
-abbrev pub house_of : House → View
+abbrev pub house_of : MemoryNamenode NoSpares → View
 house_of h = book_of h.book
 
 -- it has handed out no datanode

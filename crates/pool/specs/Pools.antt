@@ -1,12 +1,12 @@
 -- What a namenode with spare datanodes answers, and what it holds after. Assumes nothing.
-use Rattle.std.specs.Prelude.{◌≡◌, ℕ, Bool, cond, List, [], ◌∷◌, ◌++◌, map, length, Some, None, vec_items, Option, nat_le}
+use Rattle.std.specs.Prelude.{◌≡◌, ℕ, Bool, cond, not, List, [], ◌∷◌, ◌++◌, length, Some, None, find, vec_items, Option, nat_le}
 use Rattle.proto.specs.declared.datanode.Datanode.{Datanode}
-use Rattle.proto.specs.Messages.{held, info_of}
 use Rattle.replace.specs.Choice.{any_same}
-use Rattle.namenode.specs.Entries.{Entry, Ask, Row, Offer}
-use Rattle.pool.specs.declared.pool.Pool.{Pool}
+use Rattle.namenode.specs.Entries.{Entry, Ask, Offer}
+use Rattle.pool.specs.declared.kept.SpareDatanodes.{SpareDatanodes}
+use Rattle.pool.specs.declared.memory.MemoryNamenode.{MemoryNamenode}
 use Rattle.pool.specs.Books as books
-use Rattle.pool.specs.Books.{book_of}
+use Rattle.pool.specs.Books.{book_of, offer_with}
 use Rattle.pool.specs.Houses as houses
 
 -- a pool by its contents
@@ -15,21 +15,20 @@ pub record View : Type 0 where
   pub spares : List Datanode
   pub offered : List Datanode
 
-abbrev pub pool_of : Pool → View
-pool_of p = record { book = book_of p.book; spares = vec_items p.spares; offered = vec_items p.offered }
+-- an entry and a token beside some spares
+abbrev pub with_spares : books.View → SpareDatanodes → View
+with_spares v s = record { book = v; spares = vec_items s.spares; offered = vec_items s.offered }
 
--- a datanode as it is handed out
-abbrev pub row_for : Datanode → Row
-row_for d = record { info = info_of d; storage = held d.storage_id; kind = d.storage_type }
+abbrev pub pool_of : MemoryNamenode SpareDatanodes → View
+pool_of p = with_spares (book_of p.book) p.spares
 
 -- the last list that was handed out
 abbrev pub offer_of : View → Offer
-offer_of v = record { rows = map row_for v.offered; token = v.book.token }
+offer_of v = offer_with v.book.token v.offered
 
 -- the first spare whose ip and port none of the old datanodes has
 abbrev pub first_spare : List Datanode → List Datanode → Option Datanode
-first_spare [] old = None
-first_spare (s ∷ ss) old = cond (any_same old s) (first_spare ss old) (Some s)
+first_spare spares old = find (λ s. not (any_same old s)) spares
 
 abbrev pub with_spare : List Datanode → Option Datanode → Option (List Datanode)
 with_spare survivors (Some s) = Some (survivors ++ s ∷ [])
@@ -45,7 +44,7 @@ listed v (Some ns) = record { book = v.book; spares = v.spares; offered = ns }
 listed v None = v
 
 abbrev pub offering : List ℕ → Option (List Datanode) → Option Offer
-offering token (Some ns) = Some (record { rows = map row_for ns; token = token })
+offering token (Some ns) = Some (offer_with token ns)
 offering token None = None
 
 abbrev pub Lists : View → Ask → Option Offer → View → Type 0

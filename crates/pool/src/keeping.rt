@@ -1,10 +1,11 @@
 //! How the block's entry is made, read and replaced. Only the making takes memory.
-ghost use Rattle.std.specs.Prelude.{◌≡◌, ◌≤◌, map, length, IfOk, if◌then◌else◌, vec_len, vec_capacity, nat_le};
+ghost use Rattle.std.specs.Prelude.{◌≡◌, ◌≤◌, map, length, is_ok, IfOk, if◌then◌else◌, vec_len, vec_capacity, nat_le};
 ghost use Rattle.proto.specs.Messages.{held, id_of};
 ghost use Rattle.namenode.specs.Entries.{entry_for};
 ghost use Rattle.pool.specs.Books.{book_of, stamp_after, room_for, accepts, with_entry};
 
 use crate::book::{Book, PLACES};
+use namenode::protocol::Refused;
 use proto::datanode::Datanode;
 use proto::token::Token;
 use std::alloc::{AllocError, Global};
@@ -52,24 +53,26 @@ impl Book {
     pub(crate) fn next_stamp(&self) -> Option<u64>
         ensures { result ≡ stamp_after (book_of self.now).entry.stamp }
     {
-        if self.stamp == u64::MAX {
-            return None;
-        }
-        Some(self.stamp + 1)
+        self.stamp.checked_add(1)
     }
 
     // Replaces the entry, where there is room for its datanodes.
-    pub(crate) fn update(&mut self, stamp: u64, size: u64, nodes: &[Datanode]) -> bool
-        ensures answer { result ≡ accepts (entry_for stamp size nodes.now) }
-        ensures after { book_of self.new ≡ (if result then with_entry (book_of self.old) (entry_for stamp size nodes.now) else book_of self.old) }
+    pub(crate) fn update(
+        &mut self,
+        stamp: u64,
+        size: u64,
+        nodes: &[Datanode],
+    ) -> Result<(), Refused>
+        ensures answer { is_ok result ≡ accepts (entry_for stamp size nodes.now) }
+        ensures after { book_of self.new ≡ (if is_ok result then with_entry (book_of self.old) (entry_for stamp size nodes.now) else book_of self.old) }
     {
         if !has_room(nodes) {
-            return false;
+            return Err(Refused);
         }
         refill(&mut self.nodes, nodes);
         self.stamp = stamp;
         self.size = size;
-        true
+        Ok(())
     }
 
     pub(crate) fn token(&self) -> &[u8]

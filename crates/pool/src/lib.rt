@@ -1,9 +1,12 @@
-//! Two namenodes in memory: one that has spare datanodes to offer, and one that has none.
+//! A namenode in memory, with spare datanodes to offer or without any.
 #![tactic(auto)]
 
 pub mod book;
-pub mod house;
+pub mod choosing;
 pub mod keeping;
-pub mod offers;
-pub mod pool;
-pub mod requests;
+pub mod kept;
+pub mod laws;
+pub mod memory;
+pub mod spares;
+#[cfg(test)]
+mod tests;

@@ -23,7 +23,7 @@ pub fn keep_block(
     file: &str,
 ) -> anyhow::Result<()> {
     let room = Vec::with_capacity(rt.alloc(), block.len())?;
-    let mut spool = Spool::over(rt.alloc(), room)?;
+    let mut spool = Spool::over(rt.alloc(), room, 1)?;
     let status = set_up(&mut spool, 1, size.chunk_size())?;
     println!(rt; "spool: set up with status {status}")?;
     let mut buf = vec![in rt.alloc(); 0u8; size.frame_capacity()]?;

@@ -5,6 +5,7 @@
 mod keep;
 mod mirror;
 mod options;
+mod packets;
 mod sample;
 mod send;
 mod store;
@@ -21,9 +22,9 @@ use take::take_lines;
 
 fn run(rt: &HostRuntime) -> anyhow::Result<()> {
     let options = Options::from_args(rt)?;
-    let Ok(size) = PacketSize::new(options.chunk, options.packet) else {
-        return Err(anyhow!("these chunk and packet sizes do not go together"));
-    };
+    let size = PacketSize::new(options.chunk, options.packet).map_err(|_| anyhow!(
+        "these chunk and packet sizes do not go together"
+    ))?;
     let mut text = Vec::new(rt.alloc());
     rt.stdin().read_to_end(&mut text)?;
     let mut block = Vec::new(rt.alloc());

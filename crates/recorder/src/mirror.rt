@@ -5,10 +5,8 @@ use packet::size::PacketSize;
 
 // Tells of each node behind the first whether its replica is the block.
 fn show_replicas(rt: &HostRuntime, bench: &Bench, block: &[u8]) -> anyhow::Result<()> {
-    for i in 0..bench.replicas() {
-        let Some(replica) = bench.replica(i) else {
-            break;
-        };
+    let replicas = (0..bench.replicas()).filter_map(|i| bench.replica(i));
+    for (i, replica) in replicas.enumerate() {
         let node = i.saturating_add(2);
         let len = replica.len();
         let same = replica == block;

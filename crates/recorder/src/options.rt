@@ -1,5 +1,5 @@
 //! The options of the command line.
-use anyhow::anyhow;
+use anyhow::{bail, ensure};
 use std::alloc::Global;
 use std::env;
 
@@ -36,11 +36,9 @@ impl Options {
             "--block" => self.block = value.as_str().parse::<u64>()?,
             "--nodes" => self.nodes = value.as_str().parse::<usize>()?,
             "--spool" => self.spool = value,
-            _ => {
-                return Err(anyhow!(
-                    "the options are --chunk N, --packet N, --block N, --nodes N and --spool FILE"
-                ));
-            }
+            _ => bail!(
+                "the options are --chunk N, --packet N, --block N, --nodes N and --spool FILE"
+            ),
         }
         Ok(())
     }
@@ -48,21 +46,17 @@ impl Options {
     /// The options as the command line has them, each a name with a value behind it.
     pub fn from_args(rt: &HostRuntime) -> anyhow::Result<Options> {
         let mut options = Options::new(rt.alloc());
-        let mut name = String::new(rt.alloc());
-        for (i, word) in env::args(rt)?.enumerate() {
-            if i == 0 {
-                continue;
-            }
-            if i % 2 == 1 {
-                name = word;
-            } else {
-                options.set(name.as_str(), word)?;
-                name = String::new(rt.alloc());
+        let mut name: Option<String> = None;
+        for word in env::args(rt)?.skip(1) {
+            match name.take() {
+                None => name = Some(word),
+                Some(name) => options.set(name.as_str(), word)?,
             }
         }
-        if !name.is_empty() {
-            return Err(anyhow!("an option has no value behind it"));
-        }
+        ensure!(
+            name.is_none_or(|name| name.is_empty()),
+            "an option has no value behind it"
+        );
         Ok(options)
     }
 }

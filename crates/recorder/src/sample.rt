@@ -1,5 +1,5 @@
 //! The block, the datanode, the token and the client that the dry run names in its request.
-use anyhow::anyhow;
+use anyhow::{Context, ensure};
 use proto::block::{ClientOperationHeader, ExtendedBlock};
 use proto::datanode::Datanode;
 use proto::fixed::Fixed;
@@ -22,48 +22,11 @@ const TOKEN: &[u8] = b"\x0a\x05\x01\x01\x01\x01\x01\x12\x03pw1\x1a\x10HDFS_BLOCK
 
 /// The datanode, with a disk.
 pub fn node() -> anyhow::Result<Datanode> {
-    match Datanode::new(NODE, b"DS-1", 1) {
-        Some(node) => Ok(node),
-        None => Err(anyhow!("the datanode is not in form")),
-    }
-}
-
-fn token() -> anyhow::Result<Token> {
-    match Token::new(TOKEN) {
-        Some(token) => Ok(token),
-        None => Err(anyhow!("the token is not in form")),
-    }
+    Datanode::new(NODE, b"DS-1", 1).context("the datanode is not in form")
 }
 
 fn text(bytes: &[u8]) -> anyhow::Result<Fixed<64>> {
-    match Fixed::copy_of(bytes) {
-        Some(text) => Ok(text),
-        None => Err(anyhow!("a text is longer than 64 octets")),
-    }
-}
-
-// Writes the request for a new block with that header, to a first datanode and at most seven behind it.
-fn write_create<'a>(
-    header: ClientOperationHeader<'a>,
-    first: &'a Datanode,
-    targets: &'a [Datanode],
-    chunk_size: u32,
-    out: &mut [u8],
-) -> Option<usize> {
-    if targets.len() > 7 {
-        return None;
-    }
-    let request = WriteBlock {
-        header,
-        stage: Stage::SetupCreate,
-        first,
-        targets,
-        min_bytes: 0,
-        max_bytes: 0,
-        latest_stamp: STAMP,
-        chunk_size,
-    };
-    send(&request, out)
+    Fixed::copy_of(bytes).context("a text is longer than 64 octets")
 }
 
 /// Writes the request for a new block on as many datanodes, 1 to 8, to the front of `out`, and answers its length.
@@ -73,11 +36,12 @@ pub fn write_request(
     chunk_size: u32,
     out: &mut [u8],
 ) -> anyhow::Result<usize> {
-    if nodes < 1 || nodes > 8 {
-        return Err(anyhow!("a pipeline has one to eight datanodes"));
-    }
+    ensure!(
+        nodes >= 1 && nodes <= 8,
+        "a pipeline has one to eight datanodes"
+    );
     let others = [*node; 7];
-    let token = token()?;
+    let token = Token::new(TOKEN).context("the token is not in form")?;
     let client_name = text(b"furnace-recorder")?;
     let block = ExtendedBlock {
         pool_id: text(b"BP-1")?,
@@ -85,36 +49,19 @@ pub fn write_request(
         generation_stamp: STAMP,
         num_bytes: 0,
     };
-    let header = ClientOperationHeader {
-        block,
-        token: &token,
-        client_name: &client_name,
-    };
-    write_message(header, node, &others[0..nodes - 1], chunk_size, out)
-}
-
-fn write_message<'a>(
-    header: ClientOperationHeader<'a>,
-    first: &'a Datanode,
-    targets: &'a [Datanode],
-    chunk_size: u32,
-    out: &mut [u8],
-) -> anyhow::Result<usize> {
-    if targets.len() > 7 {
-        return Err(anyhow!("a pipeline has one to eight datanodes"));
-    }
     let request = WriteBlock {
-        header,
+        header: ClientOperationHeader {
+            block,
+            token: &token,
+            client_name: &client_name,
+        },
         stage: Stage::SetupCreate,
-        first,
-        targets,
+        first: node,
+        targets: &others[0..nodes - 1],
         min_bytes: 0,
         max_bytes: 0,
         latest_stamp: STAMP,
         chunk_size,
     };
-    match send(&request, out) {
-        Some(len) => Ok(len),
-        None => Err(anyhow!("the request does not fit its buffer")),
-    }
+    send(&request, out).context("the request does not fit its buffer")
 }

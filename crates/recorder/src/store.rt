@@ -1,14 +1,14 @@
 //! A block sent through a chain, packet by packet, each answer judged.
+use crate::packets::packet_at;
 use crate::sample::{REQUEST_LEN, node, write_request};
 use ack::ack::Verdict;
 use ack::response::BlockOpResponse;
-use anyhow::anyhow;
+use anyhow::{Context, anyhow, ensure};
 use chain::link::Link;
-use packet::frame::WritePacket;
 use packet::size::PacketSize;
-use recording::cut::{packet_count, packet_data};
-use sending::ask::{Heard, ask};
-use sending::send::{Sent, send_packet};
+use recording::cut::packet_count;
+use sending::ask::ask;
+use sending::send::send_packet;
 
 /// So many octets hold every answer of a chain of eight nodes.
 pub const ANSWER_LEN: usize = 64;
@@ -21,33 +21,19 @@ pub struct Tally {
 }
 
 impl Tally {
-    // Counts an answer, which must confirm the packet whose turn it is. `false` says that none came.
-    fn hear(&mut self, heard: Heard) -> anyhow::Result<bool> {
+    // Counts an answer, which must confirm the packet whose turn it is, and tells whether one came.
+    fn hear(&mut self, heard: Option<Verdict>) -> anyhow::Result<bool> {
         match heard {
-            Heard::Quiet => Ok(false),
-            Heard::Lost => Err(anyhow!("the link is lost")),
-            Heard::Undecodable(_) => Err(anyhow!("an answer cannot be read")),
-            Heard::Judged(Verdict::Packet(seqno)) => {
-                if seqno != self.confirmed {
-                    return Err(anyhow!("an answer has another packet's number"));
-                }
+            None => Ok(false),
+            Some(Verdict::Packet(seqno)) => {
+                ensure!(
+                    seqno == self.confirmed,
+                    "an answer has another packet's number"
+                );
                 self.confirmed = self.confirmed.saturating_add(1);
                 Ok(true)
             }
-            Heard::Judged(_) => Err(anyhow!("an answer confirms no packet")),
-        }
-    }
-
-    // Counts what came of a packet.
-    fn count(&mut self, sent: Sent) -> anyhow::Result<()> {
-        match sent {
-            Sent::Unframed => Err(anyhow!("a packet does not fit into its frame")),
-            Sent::Unsent => Err(anyhow!("a frame was lost")),
-            Sent::Asked(heard) => {
-                self.put = self.put.saturating_add(1);
-                self.hear(heard)?;
-                Ok(())
-            }
+            Some(_) => Err(anyhow!("an answer confirms no packet")),
         }
     }
 }
@@ -57,23 +43,21 @@ pub fn set_up<L: Link>(link: &mut L, nodes: usize, chunk_size: u32) -> anyhow::R
     let node = node()?;
     let mut request = [0u8; REQUEST_LEN];
     let len = write_request(&node, nodes, chunk_size, &mut request)?;
-    let Some(request) = request.get(0..len) else {
-        return Err(anyhow!("the request is longer than its buffer"));
-    };
+    let request = request
+        .get(0..len)
+        .context("the request is longer than its buffer")?;
     let mut answer = [0u8; ANSWER_LEN];
-    let Some(len) = link.set_up(&node, request, 0, &mut answer) else {
-        return Err(anyhow!("the set up was lost"));
-    };
-    let Some(response) = answer.get(0..len) else {
-        return Err(anyhow!("the response is longer than its buffer"));
-    };
-    match BlockOpResponse::read(response) {
-        Ok(response) => match response.status {
-            Some(0) => Ok(0),
-            _ => Err(anyhow!("the set up was refused")),
-        },
-        Err(_) => Err(anyhow!("the response cannot be read")),
-    }
+    let len = link
+        .set_up(&node, request, 0, &mut answer)
+        .map_err(|_| anyhow!("the set up was lost"))?;
+    let response = answer
+        .get(0..len)
+        .context("the response is longer than its buffer")?;
+    let response = BlockOpResponse::read(response).map_err(|_| anyhow!(
+        "the response cannot be read"
+    ))?;
+    ensure!(response.is_good(), "the set up was refused");
+    Ok(0)
 }
 
 /// Sends the block's packets and the empty last one, asks once for an answer after each, and at the end until none comes.
@@ -88,28 +72,15 @@ pub fn store_block<L: Link>(
         put: 0,
         confirmed: 0,
     };
-    let count = packet_count(block, size.capacity());
-    let mut offset = 0u64;
-    for k in 0..count {
-        let data = packet_data(block, size.capacity(), k);
-        let packet = WritePacket {
-            offset,
-            seqno: k as u64,
-            last: false,
-            data,
-        };
-        tally.count(send_packet(link, packet, size.chunk_size(), buf, answer))?;
-        offset = offset.saturating_add(data.len() as u64);
+    let capacity = size.capacity();
+    let count = packet_count(block, capacity);
+    for packet in (0..=count).map(|k| packet_at(block, capacity, k)) {
+        let heard = send_packet(link, packet, size.chunk_size(), buf, answer)?;
+        tally.put = tally.put.saturating_add(1);
+        tally.hear(heard)?;
     }
-    let end = WritePacket {
-        offset,
-        seqno: count as u64,
-        last: true,
-        data: &block[0..0],
-    };
-    tally.count(send_packet(link, end, size.chunk_size(), buf, answer))?;
     for _ in 0..=count {
-        if !tally.hear(ask(link, answer))? {
+        if !tally.hear(ask(link, answer)?)? {
             break;
         }
     }

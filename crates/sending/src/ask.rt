@@ -5,6 +5,8 @@ ghost use Rattle.sending.specs.Asking.{Hears};
 
 use ack::ack::{Verdict, judge};
 use chain::link::{Link, LinkLost};
+use std::error::Error;
+use std::fmt;
 use wire::field::DecodeError;
 
 /// Why nothing was heard when an answer was asked for.
@@ -31,6 +33,17 @@ impl From<DecodeError> for AskError {
         AskError::Undecodable(fault)
     }
 }
+
+impl fmt::Display for AskError {
+    fn fmt<W: fmt::Write>(&self, f: &mut fmt::Formatter<W>) -> fmt::Result {
+        match self {
+            Self::Lost => write!(f, "the link is lost"),
+            Self::Undecodable(_) => write!(f, "an answer cannot be read"),
+        }
+    }
+}
+
+impl Error for AskError {}
 
 /// Asks the link for its next answer and judges it, if one has come. It stands at the front of `answer`, which stays as it was where none came.
 pub fn ask<L: Link>(link: &mut L, answer: &mut [u8]) -> Result<Option<Verdict>, AskError>

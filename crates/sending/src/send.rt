@@ -7,6 +7,8 @@ use crate::ask::{AskError, ask};
 use ack::ack::Verdict;
 use chain::link::Link;
 use packet::frame::{WritePacket, write_frame};
+use std::error::Error;
+use std::fmt;
 
 /// Why a packet that was to be sent has no answer that can be read.
 #[derive(Clone, Copy, Debug, PartialEq, Eq)]
@@ -18,6 +20,18 @@ pub enum SendError {
     /// Its frame was taken, and this came of asking for an answer.
     Unheard(AskError),
 }
+
+impl fmt::Display for SendError {
+    fn fmt<W: fmt::Write>(&self, f: &mut fmt::Formatter<W>) -> fmt::Result {
+        match self {
+            Self::Unframed => write!(f, "a packet does not fit into its frame"),
+            Self::Unsent => write!(f, "a frame was lost"),
+            Self::Unheard(error) => write!(f, "{error}"),
+        }
+    }
+}
+
+impl Error for SendError {}
 
 // Puts a frame on the link, and where it was taken asks once for an answer.
 fn put_and_ask<L: Link>(

@@ -12,14 +12,17 @@ invariant_of-self-then-packet c =
     let v = view_of s.lead in
     let w = view_of c.put.new.self in
     let ws = c.append_all.new.replicas in
-    let bytes = put_bytes v w c.args.frame.now _ c.in-Some.ensures c.if-not-put.ensures ∙ cond-false _ _ _ (ne_eqb _ _ c.if-packet.true) in
-    let long : length ws ≡ vec_len s.mirrors = c.append_all.auto.replicas ∙ c.as_mut_slice.ensures.len in
+    let d = c.in_ok-packet.packet.«data».now in
+    let read = rw c.in_ok-packet.ensures.ok_part at c.read_frame.ensures in
+    let bytes = put_bytes v w c.args.frame.now _ read c.in_ok-put.ensures ∙ cond-false _ _ _ (ne_eqb _ _ c.if-packet.true) in
+    let long : length ws ≡ vec_len s.mirrors = c.append_all.auto.replicas ∙ c.deref_mut.ensures.len in
     let items = take_at ws _ (vec_len s.mirrors) long in
-    let grown = ap copies items ∙ c.append_all.ensures ∙ ap (λ z. map (λ b. b ++ c.in-Some.packet.«data».now) (copies z)) c.as_mut_slice.ensures.value in
-    record { same = (λ i. mirrored (bytes i) (grown i)) ∙ mirrored_more v.bytes c.in-Some.packet.«data».now (copies (vec_items s.mirrors)) s.same }
+    let grown = ap copies items ∙ c.append_all.ensures ∙ ap (λ z. map (λ b. b ++ d) (copies z)) c.deref_mut.ensures.value in
+    record { same = (λ i. mirrored (bytes i) (grown i)) ∙ mirrored_more v.bytes d (copies (vec_items s.mirrors)) s.same }
 
 pub invariant_of-self-else-packet : goal.invariant_of-self-else-packet
 invariant_of-self-else-packet c =
     let s = c.args.self.now in
-    let bytes = put_bytes (view_of s.lead) (view_of c.put.new.self) c.args.frame.now _ c.in-Some.ensures c.if-not-put.ensures ∙ cond-true _ _ _ (eq-eqb _ _ c.if-packet.false) in
+    let read = rw c.in_ok-packet.ensures.ok_part at c.read_frame.ensures in
+    let bytes = put_bytes (view_of s.lead) (view_of c.put.new.self) c.args.frame.now _ read c.in_ok-put.ensures ∙ cond-true _ _ _ (eq-eqb _ _ c.if-packet.false) in
     record { same = ap (λ z. mirrored z (copies (vec_items s.mirrors))) bytes ∙ s.same }
