@@ -1,5 +1,6 @@
 pub mod Octets
 pub mod Fields
 pub mod Read
+pub mod Each
 pub mod Find
 pub mod Laws

@@ -8,6 +8,7 @@ use decode::Merge;
 pub mod decode;
 pub mod encode;
 pub mod field;
+pub mod fields;
 pub mod find;
 pub mod varint;
 
