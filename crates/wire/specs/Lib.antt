@@ -1,6 +1,7 @@
 pub mod Octets
 pub mod Fields
 pub mod Read
+pub mod Steps
 pub mod Each
 pub mod Find
 pub mod Laws

@@ -1,56 +1,38 @@
-use Rattle.std.proofs.Common.{◌≡◌, ◌+◌, ◌*◌, ◌∷◌, get_or, drop, Ok, sym, ap, ◌∙◌, arith}
+use Rattle.std.proofs.Common.{◌≡◌, ◌<◌, length, drop, Ok, Err, ap, ◌∙◌, arith, rules}
+use Rattle.std.proofs.lemmas.Grind.{common_steps}
+use Rattle.std.proofs.lemmas.List.{at_drop_all}
+use Rattle.std.proofs.lemmas.Result.{err_from_is_err_and}
 use Rattle.wire.specs.Read.{varint_from, varint_at}
-use Rattle.wire.proofs.Varints.{Turn, joins, last, goes, grows, not_tenth, over, at_byte, at_end}
+use Rattle.wire.specs.Steps.{Whole}
+use Rattle.wire.proofs.Varints.{step_on, at_the_end}
 use Rattle.wire.proofs.varint.read_varint.Goals as goal
-use Rattle.wire.proofs.varint.read_varint.Goals.{After-from}
+use Rattle.wire.proofs.varint.read_varint.Goals.{In_ok-octets}
 
-pub returns-then-i-input : goal.returns-then-i-input
+octets_are : (c : In_ok-octets) → c.in_ok-octets.octets.now ≡ drop c.args.at c.args.input.now
+octets_are c = let l = c.get.ensures.lookup in let v = c.in_ok-octets.ensures in grind (arith, common_steps)
+
+pub returns-in_err-octets-clause-value : goal.returns-in_err-octets-clause-value
 unfolding varint_at
-returns-then-i-input c = record { value = sym (at_end _ _ _ _ c.if-i-input.true) ∙ c.loop-turn.invariant.0; within = tt }
+returns-in_err-octets-clause-value c =
+    let short : length c.args.input.now < c.args.at = search rules in
+    let r = at_drop_all (varint_from 0 0 c.args.at) c.args.input.now c.args.at (omega arith) in
+    search rules
 
-pub returns-then-b-gt1 : goal.returns-then-b-gt1
+pub returns-in_err-value-clause-value : goal.returns-in_err-value-clause-value
 unfolding varint_at
-returns-then-b-gt1 c =
-    let k : 7 * c.loop-turn.turn ≡ 63 = omega arith in
-    record {
-      value = over c.loop-turn.value c.loop-turn.i _ (drop (c.loop-turn.i + 1) c.args.input.now) c.if-b-gt1.true
-          ∙ sym (ap (λ n. varint_from n c.loop-turn.value c.loop-turn.i (get_or c.args.input.now c.loop-turn.i 0 ∷ drop (c.loop-turn.i + 1) c.args.input.now)) k)
-          ∙ sym (at_byte _ _ _ _ c.if-i-input.false)
-          ∙ c.loop-turn.invariant.0;
-      within = tt;
-    }
+returns-in_err-value-clause-value c =
+    let p = err_from_is_err_and c.from_residual-in_err-value.result c.from_residual-in_err-value.ensures.1 in
+    let o = octets_are (goal.at.returns-in_err-value-clause-value c).In_ok-octets in
+    rw (← o) (rw (p.1, p.2) (step_on c.loop-i.invariant c.loop-i-test.true (Err _) c.in_err-value.ensures.step))
 
-turn : (c : After-from) → Turn c.loop-turn.turn c.loop-turn.value (get_or c.args.input.now c.loop-turn.i 0) c.from.result
-turn c = record {
-  under = omega arith;
-  low = c.loop-turn.invariant.1;
-  fit = c.else-turn-eq9.either;
-  byte = omega (arith, c.type_inv.input c.loop-turn.i);
-  digit = c.from.ensures;
-}
-
-pub returns-then-b-lt128 : goal.returns-then-b-lt128
+pub returns-in-Some-clause-value : goal.returns-in-Some-clause-value
 unfolding varint_at
-returns-then-b-lt128 c =
-    let h = turn (goal.at.returns-then-b-lt128 c).After-from in
-    record {
-      value = ap (λ n. Ok (n, c.loop-turn.i + 1)) (joins h)
-          ∙ last h _ (drop (c.loop-turn.i + 1) c.args.input.now) c.if-b-lt128.true
-          ∙ sym (at_byte _ _ _ _ c.if-i-input.false)
-          ∙ c.loop-turn.invariant.0;
-      within = (omega arith, omega arith);
-    }
+returns-in-Some-clause-value c =
+    let o = octets_are (goal.at.returns-in-Some-clause-value c).In_ok-octets in
+    rw (← o) (step_on c.loop-i.invariant c.loop-i-test.true (Ok (Whole c.in-Some.value)) (rw c.in-Some.is at c.in_ok-value.ensures.step))
 
-pub loop-turn-preserved : goal.loop-turn-preserved
+pub returns-clause-value : goal.returns-clause-value
 unfolding varint_at
-loop-turn-preserved c =
-    let h = turn (goal.at.loop-turn-preserved c).After-from in
-    let j = joins h in (
-      ap (λ n. varint_from (7 * (c.loop-turn.turn + 1)) n (c.loop-turn.i + 1) (drop (c.loop-turn.i + 1) c.args.input.now)) j
-          ∙ goes h _ (drop (c.loop-turn.i + 1) c.args.input.now) c.if-b-lt128.false
-          ∙ sym (at_byte _ _ _ _ c.if-i-input.false)
-          ∙ c.loop-turn.invariant.0,
-      rw j (grows h),
-      omega (arith, not_tenth h c.if-b-lt128.false),
-      omega arith,
-    )
+returns-clause-value c =
+    let o = octets_are (goal.at.returns-clause-value c).In_ok-octets in
+    rw (← o) (at_the_end c.loop-i.invariant c.loop-i-test.false)
