@@ -2,7 +2,7 @@
 use Rattle.std.specs.Prelude.{◌≡◌, ℕ, ◌+◌, ◌<◌, ◌≤◌, List, length, Ok, Err, Result, Option, Some, None}
 use Rattle.wire.specs.declared.field.DecodeError.{DecodeError}
 use Rattle.wire.specs.declared.field.Field.{Field}
-use Rattle.wire.specs.Read.{read_field, in_place, seen, wire, place_of, weight}
+use Rattle.wire.specs.Read.{read_field, in_place, wire, place_of, weight}
 
 -- what stands at `at`, and the place past it: a field, a fault with its place, or nothing at the end
 abbrev pub NextField : List ℕ → ℕ → Option (Result Field DecodeError) → ℕ → Type 0

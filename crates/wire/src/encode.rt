@@ -189,6 +189,7 @@ impl<'a, T, F: FieldOf<T>> Message for Each<'a, T, F> {
 
     fn encoded_len(&self) -> usize {
         let mut size = 0;
+        // Stays a loop: that each field is within the message is known row by row, and a chain's `sum` asks for it beforehand.
         for row in self.rows {
             size += F::field_len(row);
         }

@@ -57,10 +57,10 @@ impl Field<'_> {
         ensures { result ≡ tag_of (wire self.now) }
     {
         match self {
-            Field::Varint { tag, .. } => *tag,
-            Field::Fixed64 { tag, .. } => *tag,
-            Field::Part { tag, .. } => *tag,
-            Field::Fixed32 { tag, .. } => *tag,
+            Field::Varint { tag, .. }
+            | Field::Fixed64 { tag, .. }
+            | Field::Part { tag, .. }
+            | Field::Fixed32 { tag, .. } => *tag,
         }
     }
 
@@ -69,10 +69,10 @@ impl Field<'_> {
         ensures { result ≡ place_of self.now }
     {
         match self {
-            Field::Varint { place, .. } => *place,
-            Field::Fixed64 { place, .. } => *place,
-            Field::Part { place, .. } => *place,
-            Field::Fixed32 { place, .. } => *place,
+            Field::Varint { place, .. }
+            | Field::Fixed64 { place, .. }
+            | Field::Part { place, .. }
+            | Field::Fixed32 { place, .. } => *place,
         }
     }
 }

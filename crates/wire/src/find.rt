@@ -57,7 +57,11 @@ impl<'a> Wanted<'a> for &'a [u8] {
 
     fn or(self, field: Field<'a>, tag: u32) -> &'a [u8] {
         match field {
-            Field::Part { tag: found, bytes, .. } if found == tag => bytes,
+            Field::Part {
+                tag: found,
+                bytes,
+                ..
+            } if found == tag => bytes,
             _ => self,
         }
     }
@@ -79,7 +83,11 @@ impl<'a> Wanted<'a> for u64 {
 
     fn or(self, field: Field<'a>, tag: u32) -> u64 {
         match field {
-            Field::Varint { tag: found, value, .. } if found == tag => value,
+            Field::Varint {
+                tag: found,
+                value,
+                ..
+            } if found == tag => value,
             _ => self,
         }
     }

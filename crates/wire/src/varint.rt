@@ -68,7 +68,7 @@ pub fn read_varint(input: &[u8], at: usize) -> Result<(u64, usize), Fault>
     Err(Fault::End)
 }
 
-/// A varint as it is written: the first `len` of `octets`.
+/// A varint as it is written: the first `len` of `octets`. Stays a buffer with its length: nothing here allocates.
 #[derive(Clone, Copy)]
 pub struct EncodedVarint {
     octets: [u8; 10],
@@ -85,6 +85,7 @@ impl EncodedVarint {
         let mut octets = [0u8; 10];
         let mut rest = value;
         let mut len = 0;
+        // Stays a loop: it ends where the rest is small, and not at an octet.
         while rest >= 0x80 {
             octets[len] = (rest & 0x7f) as u8 | 0x80;
             rest >>= 7;

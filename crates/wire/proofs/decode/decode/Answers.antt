@@ -1,7 +1,7 @@
-use Rattle.std.proofs.Common.{◌≡◌, Ok, Err, sym, ap, ◌∙◌, rules}
+use Rattle.std.proofs.Common.{◌≡◌, Err, sym, ap, ◌∙◌, rules}
 use Rattle.std.proofs.lemmas.Result.{err_from_is_err_and}
 use Rattle.wire.specs.declared.fields.Fields.{Fields}
-use Rattle.wire.proofs.Messages.{begin, end, no_field, no_merge, more, unmapped_value, unmapped_fault}
+use Rattle.wire.proofs.Messages.{begin, no_merge, more, unmapped_value, unmapped_fault}
 use Rattle.wire.proofs.decode.decode.Goals as goal
 
 pub loop-field-init : goal.loop-field-init

@@ -1,4 +1,4 @@
-use Rattle.std.proofs.Common.{Ok, Err, sym, refl, ap, ◌∙◌, rules, arith}
+use Rattle.std.proofs.Common.{Ok, sym, refl, ap, ◌∙◌, arith}
 use Rattle.wire.specs.declared.fields.Fields.{Fields}
 use Rattle.wire.specs.Find.{read_or, found}
 use Rattle.wire.proofs.Messages.{begin, end, no_field, more}
