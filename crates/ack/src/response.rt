@@ -7,9 +7,9 @@ use wire::decode::{Merge, decode};
 use wire::field::{DecodeError, Fault, Field};
 
 /// A response: its status, where it gave one. Nothing else of it counts.
-
 #[derive(Clone, Copy, Debug, PartialEq, Eq)]
 pub struct BlockOpResponse {
+    // Stays a number: a datanode may send a status that datatransfer.proto does not list.
     pub status: Option<u32>,
 }
 

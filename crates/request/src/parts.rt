@@ -22,7 +22,7 @@ struct Construction {
 macro_rules! construction_parts {
     ($it:expr) => {
         Then(
-            Uint { tag: 4, value: $it.stage.number() },
+            Uint { tag: 4, value: u64::from($it.stage) },
             Then(
                 Uint { tag: 5, value: $it.pipeline_size },
                 Then(

@@ -1,5 +1,5 @@
 -- One octet of a varint, of which `turn` octets have given `low`. Assumes nothing.
-use Rattle.std.specs.Prelude.{ℕ, ◌+◌, ◌-◌, ◌*◌, ◌^◌, cond, Ok, Err, Result, Option, Some, None, nat_lt}
+use Rattle.std.specs.Prelude.{ℕ, ◌+◌, ◌-◌, ◌*◌, ◌^◌, ◌<◌, cond, Ok, Err, Result, Option, Some, None, nat_lt}
 use Rattle.wire.specs.declared.field.Fault.{Fault}
 use Rattle.wire.specs.declared.field.Fault.TheVariants as fault
 
@@ -19,3 +19,8 @@ abbrev pub step_told : ℕ → ℕ → Result (Option ℕ) Fault → Result Step
 step_told low turn (Ok None) = Ok (More low turn)
 step_told low turn (Ok (Some n)) = Ok (Whole n)
 step_told low turn (Err e) = Err e
+
+-- a varint that goes on has some octets, and few enough
+abbrev pub Sound : Step → Type 0
+Sound (More low turn) = (low < 2 ^ (7 * turn)) × (0 < turn) × (turn < 10)
+Sound (Whole value) = value < 2 ^ 64

@@ -2,7 +2,7 @@
 ghost use Rattle.std.specs.Prelude.{◌≡◌, ◌*◌, ◌^◌, ◌<◌, ◌≤◌, length, take, not, nat_eq, IfOk, IfErr, IfSome};
 ghost use Rattle.wire.specs.Fields.{varint_bytes};
 ghost use Rattle.wire.specs.Read.{varint_at};
-ghost use Rattle.wire.specs.Steps.{step_of, step_told};
+ghost use Rattle.wire.specs.Steps.{step_of, step_told, Sound};
 
 use crate::field::Fault;
 
@@ -27,6 +27,7 @@ impl VarintReader {
     /// Takes one octet more, and gives the value where the varint is whole with it. The next octet then begins another varint.
     pub fn feed(&mut self, b: u8) -> Result<Option<u64>, Fault>
         ensures step { step_told self.new.low self.new.turn result ≡ step_of self.old.low self.old.turn b }
+        ensures sound { IfOk (step_told self.new.low self.new.turn result) Sound }
         ensures anew { IfOk result (λ whole. IfSome whole (λ _. (self.new.low ≡ 0) × (self.new.turn ≡ 0))) }
         ensures kept { IfErr result (λ _. self.new ≡ self.old) }
     {
@@ -54,6 +55,7 @@ impl VarintReader {
 }
 
 /// The varint at `at`, of at most ten octets and below 2^64, and the place past it.
+#[tactic(auto, unfolding(crate::specs::Read::varint_at))]
 pub fn read_varint(input: &[u8], at: usize) -> Result<(u64, usize), Fault>
     ensures value { result ≡ varint_at at input.now }
     ensures within { IfOk result (λ x. (at < x.1) × (x.1 ≤ length input.now)) }

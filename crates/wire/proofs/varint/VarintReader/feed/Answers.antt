@@ -1,6 +1,6 @@
 use Rattle.std.proofs.Common.{◌+◌, Ok, ap, ◌∙◌, arith}
 use Rattle.wire.specs.Steps.{More, Whole}
-use Rattle.wire.proofs.Varints.{Turn, joins, last, goes, grows, not_tenth}
+use Rattle.wire.proofs.Varints.{Turn, joins, last, goes, grows, room, not_tenth}
 use Rattle.wire.proofs.varint.VarintReader.feed.Goals as goal
 use Rattle.wire.proofs.varint.VarintReader.feed.Goals.{After-from}
 
@@ -17,6 +17,11 @@ pub returns-then-b-lt128-clause-step : goal.returns-then-b-lt128-clause-step
 returns-then-b-lt128-clause-step c =
     let h = turn (goal.at.returns-then-b-lt128-clause-step c).After-from in
     ap (λ n. Ok (Whole n)) (joins h) ∙ last h c.if-b-lt128.true
+
+pub returns-then-b-lt128-clause-sound : goal.returns-then-b-lt128-clause-sound
+returns-then-b-lt128-clause-sound c =
+    let h = turn (goal.at.returns-then-b-lt128-clause-sound c).After-from in
+    rw (joins h) (room h)
 
 pub invariant_of-self : goal.invariant_of-self
 invariant_of-self c =
