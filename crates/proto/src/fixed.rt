@@ -1,7 +1,7 @@
 //! Octets in a memory of their own, of a length that is bounded: what the writer keeps of texts and messages without allocating.
 ghost use Rattle.std.specs.Prelude.{◌≡◌, ◌<◌, ◌≤◌, length, take, MatchResult};
 
-/// At most `N` octets: the first `len` of `octets`.
+/// At most `N` octets: the first `len` of `octets`. Stays a buffer with its length: it is copied freely, and nothing is allocated.
 #[derive(Clone, Copy)]
 pub struct Fixed<const N: usize> {
     octets: [u8; N],

@@ -28,6 +28,7 @@ pub struct Rule {
 }
 
 /// Whether these octets are a text: ASCII, and not longer than `limit`.
+#[tactic(auto, using(crate::proofs::Forms::ascii_is))]
 pub fn is_text(bytes: &[u8], limit: usize) -> bool
     ensures { result ≡ is_text limit bytes.now }
 {
@@ -40,8 +41,7 @@ impl Kind {
     {
         match (self, field) {
             (Kind::Text, Field::Part { bytes, .. }) => is_text(bytes, 64),
-            (Kind::Bytes, Field::Part { .. }) => true,
-            (Kind::Uint64, Field::Varint { .. }) => true,
+            (Kind::Bytes, Field::Part { .. }) | (Kind::Uint64, Field::Varint { .. }) => true,
             (Kind::Uint32, Field::Varint { value, .. }) => value < 0x1_0000_0000,
             (Kind::Int32, Field::Varint { value, .. }) => {
                 value < 0x8000_0000 || value >= 0xffff_ffff_8000_0000
@@ -77,7 +77,15 @@ impl Rule {
 pub fn conforms(rules: &[Rule], input: &[u8]) -> bool
     ensures { result ≡ form_of rules.now input.now }
 {
-    rules.iter().try_fold(0, |at, rule| rule.past(input, at)) == Some(input.len())
+    let mut at = 0;
+    // Stays a loop: of `try_fold` only the calls of its closure are known, and not that each began where the one before it ended.
+    for rule in rules {
+        let Some(next) = rule.past(input, at) else {
+            return false;
+        };
+        at = next;
+    }
+    at == input.len()
 }
 
 /// What `conforms` takes are just the messages written from fields that their table allows, in its order, for every table whose
@@ -85,5 +93,4 @@ pub fn conforms(rules: &[Rule], input: &[u8]) -> bool
 pub fn forms_stand()
     ensures form { FormsStand }
     ensures tables { TablesRise }
-{
-}
+{}
