@@ -15,8 +15,12 @@ const DATA_TRANSFER_VERSION: u16 = 28;
 pub trait Request: Message {
     const CODE: u8;
 
-    /// What `CODE` is to a contract.
-    ghost CODE: { ℕ };
+    /// What `CODE` is to a contract. Stays beside `op`: for a type with a lifetime no ghost `CODE` can be proved equal to the constant.
+    ghost code: { ℕ };
+
+    /// `CODE`, which ties it to what contracts say.
+    fn op(&self) -> u8
+        ensures { result ≡ code };
 
     /// The message's length, which is such that a buffer of 4,096 octets holds every request.
     fn message_len(&self) -> usize
@@ -27,7 +31,7 @@ pub trait Request: Message {
 /// Writes a request at the front of `out`: the version, the operation's code, and the message after its length. Where `out` is too short
 /// it stays as it was.
 pub fn send<R: Request>(request: &R, out: &mut [u8]) -> Option<usize>
-    ensures written { sent (framed R.Request.CODE (encode_all (R.Message.fields request.now))) out.old out.new result }
+    ensures written { sent (framed R.Request.code (encode_all (R.Message.fields request.now))) out.old out.new result }
     ensures suffices { 4096 ≤ length out.old → is_some result ≡ true }
 {
     let inner = request.message_len();
@@ -38,7 +42,7 @@ pub fn send<R: Request>(request: &R, out: &mut [u8]) -> Option<usize>
         return None;
     }
     out[0..2].copy_from_slice(&DATA_TRANSFER_VERSION.to_be_bytes());
-    out[2] = R::CODE;
+    out[2] = request.op();
     out[3..from].copy_from_slice(size.as_slice());
     request.encode(&mut out[from..end]);
     Some(end)
@@ -47,7 +51,11 @@ pub fn send<R: Request>(request: &R, out: &mut [u8]) -> Option<usize>
 impl<'a> Request for WriteBlock<'a> {
     const CODE: u8 = 80;
 
-    ghost CODE = { 80 };
+    ghost code = { 80 };
+
+    fn op(&self) -> u8 {
+        Self::CODE
+    }
 
     fn message_len(&self) -> usize {
         self.encoded_len()
@@ -57,7 +65,11 @@ impl<'a> Request for WriteBlock<'a> {
 impl<'a> Request for TransferBlock<'a> {
     const CODE: u8 = 86;
 
-    ghost CODE = { 86 };
+    ghost code = { 86 };
+
+    fn op(&self) -> u8 {
+        Self::CODE
+    }
 
     fn message_len(&self) -> usize {
         self.encoded_len()
