@@ -14,6 +14,7 @@ use wire::find::find;
 pub struct Datanode {
     info: Fixed<256>,
     storage_id: Fixed<64>,
+    // Stays a number: any of 0 to 127 may be passed, and hdfs.proto lists fewer.
     storage_type: u8,
     ghost typed: { storage_type < 2 ^ 7 },
 }

@@ -24,8 +24,7 @@ impl<const N: usize> Fixed<N> {
         ensures value { result.now ≡ take self.now.len self.now.octets }
         ensures within { length result.now ≤ N }
     {
-        let all = &self.octets[..];
-        &all[0..self.len]
+        &self.octets[..self.len]
     }
 }
 

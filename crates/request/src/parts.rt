@@ -19,6 +19,7 @@ struct Construction {
     latest_stamp: u64,
 }
 
+// Stays a macro, as those below: the parts borrow from the request, and as a result their type would have to be written out.
 macro_rules! construction_parts {
     ($it:expr) => {
         Then(

@@ -11,7 +11,7 @@ use wire::field::{Fault, Field};
 use wire::find::find;
 use wire::varint::read_varint;
 
-/// The numbers of an `OpWriteBlockProto` that a pipeline is set up by.
+/// The numbers of an `OpWriteBlockProto` that a pipeline is set up by. They stay numbers: a far end may be sent a stage or a type that is not listed.
 #[derive(Clone, Copy, Debug, PartialEq, Eq)]
 pub struct Setup {
     pub stage: u64,
