@@ -25,10 +25,6 @@ pub unmapped_value : {X : Type 0} (r : Result X Fault) (x : X) → MatchResult r
 unmapped_value (Ok y) x h = cc
 unmapped_value (Err e) x h = absurd h
 
-pub unmapped_fault : {X : Type 0} {P : Fault → Type 0} (r : Result X Fault) (d : DecodeError) → MatchResult r (λ y. ◌≡◌ {A = Result X DecodeError} (Err d) (Ok y)) P → (e : Fault) × ((r ≡ Err e) × P e)
-unmapped_fault (Ok x) d h = cc
-unmapped_fault (Err e) d h = (e, (refl, h))
-
 module _ {S : Type 0} {merge : S → WireField → Result S Fault} {size : S → ℕ} {none : S} where
   pub begin : (bs : List ℕ) → size none ≡ 0 → Sofar merge size none bs 0 none
   unfolding decoded
@@ -50,9 +46,6 @@ module _ {S : Type 0} {merge : S → WireField → Result S Fault} {size : S →
       step j m e =
           ap (λ z. and_then (in_place at z) (λ x. and_then (in_place at (merge s x.0)) (λ t. decode_from merge j t x.1 bs))) r
           ∙ ap (λ z. and_then (in_place at z) (λ t. decode_from merge j t next bs)) e
-
-      pub no_merge : (e : Fault) → merge s w ≡ Err e → Err (record { place = at; fault = e }) ≡ decoded merge none bs
-      no_merge e m = let t = turn merge bs at s f.fuel h f.enough in sym (t.1.1 ∙ step t.0 (Err e) m) ∙ f.leads
 
       pub more : (t : S) → merge s w ≡ Ok t → at < next → at + weight w ≤ next → next ≤ length bs → size t ≤ size s + weight w → Sofar merge size none bs next t
       more t m lt fits le small =

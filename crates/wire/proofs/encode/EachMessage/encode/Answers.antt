@@ -1,7 +1,7 @@
 use Rattle.std.proofs.Common.{◌+◌, ◌-◌, [], ◌∷◌, ◌++◌, map, length, take, sym, ap, ◌∙◌, subst, arith, rules}
 use Rattle.wire.specs.Fields.{encode_all}
-use Rattle.wire.proofs.Front.{Front, start, put, done, renamed}
-use Rattle.wire.proofs.Encoded.{left_length, rows_done, none_left, all_done, nothing}
+use Rattle.wire.proofs.Front.{Front, start, put, renamed}
+use Rattle.wire.proofs.Encoded.{left_length, rows_done, nothing}
 use Rattle.wire.proofs.encode.EachMessage.encode.Goals as goal
 
 pub loop-row-init : goal.loop-row-init
@@ -41,9 +41,3 @@ loop-row-preserved g c =
       renamed f _ (ap (λ z. encode_all (map g.F.FieldOf.field (take c.loop-row.row-index c.args.self.now.rows.now)) ++ z) w ∙ sym (rows_done g.F.FieldOf.field c.args.self.now.rows.now c.loop-row.row-index c.row-item.result c.loop-row-test.true c.row-item.is)),
       omega arith,
     )
-
-pub returns : goal.returns
-returns g c =
-    let e = ap length (none_left g.F.FieldOf.field c.args.self.now.rows.now c.loop-row.row-index c.loop-row-test.false) in
-    let i = c.loop-row.invariant.1 in
-    done c.loop-row.invariant.0 (omega arith) ∙ all_done g.F.FieldOf.field c.args.self.now.rows.now c.loop-row.row-index c.loop-row-test.false
