@@ -4,7 +4,6 @@ pub mod Held
 pub mod Laws
 pub mod Packed
 pub mod Responses
-pub mod Steps
 pub mod Tally
 pub mod Verdicts
 pub mod Written

@@ -1,7 +1,6 @@
 //! The answer of a pipeline to a packet, `PipelineAckProto` of datatransfer.proto.
 ghost use Rattle.std.specs.Prelude.{◌≡◌, ◌+◌, ◌^◌, ◌<◌, ◌≤◌, length, IfOk, if◌then◌else◌, Ok, Err};
 ghost use Rattle.wire.specs.Fields.{varint, part};
-ghost use Rattle.wire.specs.Read.{and_then};
 ghost use Rattle.wire.specs.declared.field.Fault.TheVariants.{WireType};
 ghost use Rattle.ack.specs.Acks.{zigzag, is_ack_tag};
 ghost use Rattle.ack.specs.Held.{no_ack, merges_ack, ack_size, ack_read};
@@ -59,11 +58,11 @@ impl PipelineAck {
         match tag {
             1 => PipelineAck {
                 seqno: unzigzag(value),
-                replies: self.replies,
+                ..self
             },
             2 => PipelineAck {
-                seqno: self.seqno,
                 replies: self.replies.push(value),
+                ..self
             },
             _ => self,
         }
@@ -78,13 +77,10 @@ impl PipelineAck {
         match tag {
             2 => {
                 let replies = push_packed(bytes, self.replies)?;
-                Ok(PipelineAck {
-                    seqno: self.seqno,
-                    replies,
-                })
+                Ok(PipelineAck { replies, ..self })
             }
             4 => {
-                let Skipped = push_packed(bytes, Skipped)?;
+                push_packed(bytes, Skipped)?;
                 Ok(self)
             }
             1 | 3 => Err(Fault::WireType),
@@ -96,10 +92,10 @@ impl PipelineAck {
     fn merge_fixed(self, tag: u32) -> Result<PipelineAck, Fault>
         ensures { result ≡ (if is_ack_tag tag then Err WireType else Ok self) }
     {
-        if tag >= 1 && tag <= 4 {
-            return Err(Fault::WireType);
+        match tag {
+            1..=4 => Err(Fault::WireType),
+            _ => Ok(self),
         }
-        Ok(self)
     }
 
     /// Reads an answer. An absent number is 0.
@@ -144,8 +140,7 @@ impl Merge for PipelineAck {
         match field {
             Field::Varint { tag, value, .. } => Ok(self.merge_varint(tag, value)),
             Field::Part { tag, bytes, .. } => self.merge_part(tag, bytes),
-            Field::Fixed64 { tag, .. } => self.merge_fixed(tag),
-            Field::Fixed32 { tag, .. } => self.merge_fixed(tag),
+            Field::Fixed64 { tag, .. } | Field::Fixed32 { tag, .. } => self.merge_fixed(tag),
         }
     }
 }
@@ -154,13 +149,6 @@ impl Merge for PipelineAck {
 pub fn judge(input: &[u8]) -> Result<Verdict, DecodeError>
     ensures { result ≡ verdict_on input.now }
 {
-    verdict_on(PipelineAck::read(input))
-}
-
-// What an answer means, where it could be read.
-fn verdict_on(read: Result<PipelineAck, DecodeError>) -> Result<Verdict, DecodeError>
-    ensures { result ≡ and_then read (λ a. Ok (verdict_of a.seqno a.replies.failed)) }
-{
-    let ack = read?;
+    let ack = PipelineAck::read(input)?;
     Ok(ack.verdict())
 }

@@ -1,6 +1,5 @@
 //! The response of a datanode to a request, `BlockOpResponseProto` of datatransfer.proto.
-ghost use Rattle.std.specs.Prelude.{◌≡◌, if◌then◌else◌, Ok, Err, nat_eq};
-ghost use Rattle.wire.specs.declared.field.Fault.TheVariants.{WireType};
+ghost use Rattle.std.specs.Prelude.{◌≡◌};
 ghost use Rattle.ack.specs.Responses.{merge_status, no_status, response_of, is_success};
 ghost use Rattle.std.proofs.Common.{rules};
 
@@ -10,20 +9,11 @@ use wire::field::{DecodeError, Fault, Field};
 /// A response: its status, where it gave one. Nothing else of it counts.
 #[derive(Clone, Copy, Debug, PartialEq, Eq)]
 pub struct BlockOpResponse {
+    // Stays a number: a datanode may send a status that datatransfer.proto does not list.
     pub status: Option<u32>,
 }
 
 impl BlockOpResponse {
-    // A field that is no varint, and so no status.
-    fn merge_other(self, tag: u32) -> Result<BlockOpResponse, Fault>
-        ensures { result ≡ (if nat_eq tag 1 then Err WireType else Ok self) }
-    {
-        if tag == 1 {
-            return Err(Fault::WireType);
-        }
-        Ok(self)
-    }
-
     /// Reads a response. The last status counts.
     pub fn read(input: &[u8]) -> Result<BlockOpResponse, DecodeError>
         ensures { result ≡ response_of input.now }
@@ -35,10 +25,7 @@ impl BlockOpResponse {
     pub fn is_good(&self) -> bool
         ensures { result ≡ is_success self.now.status }
     {
-        match self.status {
-            Some(status) => status == 0,
-            None => false,
-        }
+        matches!(self.status, Some(0))
     }
 }
 
@@ -57,17 +44,13 @@ impl Merge for BlockOpResponse {
 
     fn merge_field(self, field: Field<'_>) -> Result<BlockOpResponse, Fault> {
         match field {
-            Field::Varint { tag, value, .. } => {
-                if tag != 1 {
-                    return Ok(self);
-                }
-                Ok(BlockOpResponse {
-                    status: Some((value % 0x1_0000_0000) as u32),
-                })
-            }
-            Field::Part { tag, .. } => self.merge_other(tag),
-            Field::Fixed64 { tag, .. } => self.merge_other(tag),
-            Field::Fixed32 { tag, .. } => self.merge_other(tag),
+            Field::Varint { tag: 1, value, .. } => Ok(BlockOpResponse {
+                status: Some((value % 0x1_0000_0000) as u32),
+            }),
+            Field::Part { tag: 1, .. }
+            | Field::Fixed64 { tag: 1, .. }
+            | Field::Fixed32 { tag: 1, .. } => Err(Fault::WireType),
+            _ => Ok(self),
         }
     }
 }

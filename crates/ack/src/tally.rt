@@ -66,19 +66,14 @@ impl Repeated for Replies {
 
     // A reply is an enum, of which the low 32 bits count. One that is no known status takes no position.
     fn push(self, value: u64) -> Replies {
-        let status = value % 0x1_0000_0000;
-        if status > LAST_STATUS {
-            return self;
-        }
-        if status == 0 {
-            return Replies {
-                known: self.known + 1,
-                failed: self.failed,
-            };
-        }
-        Replies {
-            known: self.known + 1,
-            failed: self.failed.with(self.known),
+        let known = self.known + 1;
+        match value % 0x1_0000_0000 {
+            0 => Replies { known, ..self },
+            1..=LAST_STATUS => Replies {
+                known,
+                failed: self.failed.with(self.known),
+            },
+            _ => self,
         }
     }
 }

@@ -3,7 +3,7 @@ ghost use Rattle.std.specs.Prelude.{◌≡◌, [], ◌∷◌};
 ghost use Rattle.wire.specs.Fields.{varint};
 ghost use Rattle.ack.specs.Written.{zag, answer_fields, answered, ReadBack};
 
-use wire::encode::{Each, FieldOf, Message, Then, Uint};
+use wire::encode::{Each, FieldOf, Message, OneField, Then, Uint};
 
 // A reply, not packed, as datanodes write it.
 #[derive(Clone, Copy)]
@@ -12,20 +12,11 @@ struct Reply;
 impl FieldOf<u8> for Reply {
     ghost field = { λ status. varint 2 status };
 
-    fn field_len(row: &u8) -> usize {
-        Uint {
+    fn field_of(row: &u8) -> OneField<'_> {
+        OneField::Uint(Uint {
             tag: 2,
-            value: *row as u64,
-        }
-        .encoded_len()
-    }
-
-    fn put_field(row: &u8, out: &mut [u8]) {
-        Uint {
-            tag: 2,
-            value: *row as u64,
-        }
-        .encode(out)
+            value: u64::from(*row),
+        })
     }
 }
 
@@ -42,6 +33,7 @@ fn zigzagged(seqno: u64) -> u64
 
 /// Writes the answer to the packet of that number at the front of `out`, with a reply for each node, of which there are at most eight.
 /// Where there are more, or `out` is too short, it stays as it was.
+// Its replies stay numbers: a datanode may answer a status that datatransfer.proto does not list.
 pub fn write_ack(out: &mut [u8], seqno: u64, replies: &[u8]) -> Option<usize>
     ensures { answered seqno replies.now out.old out.new result }
 {
@@ -67,8 +59,6 @@ pub fn write_ack(out: &mut [u8], seqno: u64, replies: &[u8]) -> Option<usize>
 }
 
 /// An answer is read back as its number and the codes of its replies.
-pub fn answers_read_back() -> u8
+pub fn answers_read_back()
     ensures { ReadBack }
-{
-    0
-}
+{}

@@ -7,13 +7,14 @@ ghost use Rattle.proto.specs.Rules.{is_datanode, is_node};
 use crate::fixed::Fixed;
 use crate::form::{conforms, is_text};
 use crate::rules::{DATANODE_ID, DATANODE_INFO};
-use wire::find::{find_number, find_part};
+use wire::find::find;
 
 /// A `DatanodeInfoProto` in form, of at most 256 octets, with its storage's name and type, 0 to 127.
 #[derive(Clone, Copy)]
 pub struct Datanode {
     info: Fixed<256>,
     storage_id: Fixed<64>,
+    // Stays a number: any of 0 to 127 may be passed, and hdfs.proto lists fewer.
     storage_type: u8,
     ghost typed: { storage_type < 2 ^ 7 },
 }
@@ -22,26 +23,14 @@ pub struct Datanode {
 fn is_datanode(info: &[u8]) -> bool
     ensures { result ≡ is_datanode info.now }
 {
-    if info.len() > 256 {
-        return false;
-    }
-    if !conforms(&DATANODE_INFO, info) {
-        return false;
-    }
-    conforms(&DATANODE_ID, find_part(info, 1))
+    info.len() <= 256 && conforms(&DATANODE_INFO, info) && conforms(&DATANODE_ID, find(info, 1))
 }
 
 /// Whether a datanode's octets, its storage's name and its storage's type, 0 to 127, are in form.
 pub fn is_node(info: &[u8], storage_id: &[u8], storage_type: u8) -> bool
     ensures { result ≡ is_node info.now storage_id.now storage_type }
 {
-    if !is_datanode(info) {
-        return false;
-    }
-    if !is_text(storage_id, 64) {
-        return false;
-    }
-    storage_type < 128
+    is_datanode(info) && is_text(storage_id, 64) && storage_type < 128
 }
 
 impl Datanode {
@@ -54,15 +43,9 @@ impl Datanode {
         if !is_node(info, storage_id, storage_type) {
             return None;
         }
-        let Some(info) = Fixed::copy_of(info) else {
-            return None;
-        };
-        let Some(storage_id) = Fixed::copy_of(storage_id) else {
-            return None;
-        };
         Some(Datanode {
-            info,
-            storage_id,
+            info: Fixed::try_from(info).ok()?,
+            storage_id: Fixed::try_from(storage_id).ok()?,
             storage_type,
         })
     }
@@ -78,19 +61,19 @@ impl Datanode {
     pub fn id(&self) -> &[u8]
         ensures { result.now ≡ id_of self.now }
     {
-        find_part(self.info(), 1)
+        find(self.info(), 1)
     }
 
     pub fn ip_addr(&self) -> &[u8]
         ensures { result.now ≡ ip_of self.now }
     {
-        find_part(self.id(), 1)
+        find(self.id(), 1)
     }
 
     pub fn xfer_port(&self) -> u64
         ensures { result ≡ port_of self.now }
     {
-        find_number(self.id(), 4)
+        find(self.id(), 4)
     }
 
     pub fn storage_id(&self) -> &[u8]

@@ -1,7 +1,7 @@
 //! Octets in a memory of their own, of a length that is bounded: what the writer keeps of texts and messages without allocating.
-ghost use Rattle.std.specs.Prelude.{◌≡◌, ◌<◌, ◌≤◌, length, take, Some, None};
+ghost use Rattle.std.specs.Prelude.{◌≡◌, ◌<◌, ◌≤◌, length, take, MatchResult};
 
-/// At most `N` octets: the first `len` of `octets`.
+/// At most `N` octets: the first `len` of `octets`. Stays a buffer with its length: it is copied freely, and nothing is allocated.
 #[derive(Clone, Copy)]
 pub struct Fixed<const N: usize> {
     octets: [u8; N],
@@ -20,26 +20,31 @@ impl<const N: usize> Fixed<N> {
         }
     }
 
-    /// A copy of some octets, or nothing where they are more than `N`.
-    pub fn copy_of(bytes: &[u8]) -> Option<Fixed<N>>
-        ensures { elim result [ Some f ↦ (take f.len f.octets ≡ bytes.now) × (length bytes.now ≤ N) | None ↦ N < length bytes.now ] }
-    {
-        let len = bytes.len();
-        if len > N {
-            return None;
-        }
-        let mut octets = [0u8; N];
-        for i in 0..len {
-            octets[i] = bytes[i];
-        }
-        Some(Fixed { octets, len })
-    }
-
     pub fn as_slice(&self) -> &[u8]
         ensures value { result.now ≡ take self.now.len self.now.octets }
         ensures within { length result.now ≤ N }
     {
-        let all = &self.octets[..];
-        &all[0..self.len]
+        &self.octets[..self.len]
+    }
+}
+
+/// More octets than there is memory for.
+#[derive(Clone, Copy, Debug, PartialEq, Eq)]
+pub struct TooLong;
+
+/// A copy of some octets, where they are at most `N`.
+impl<const N: usize> TryFrom<&[u8]> for Fixed<N> {
+    type Error = TooLong;
+
+    ghost try_from_gives = { λ bytes r. MatchResult r (λ f. (take f.len f.octets ≡ bytes.now) × (length bytes.now ≤ N)) (λ _. N < length bytes.now) };
+
+    fn try_from(bytes: &[u8]) -> Result<Fixed<N>, TooLong> {
+        let len = bytes.len();
+        if len > N {
+            return Err(TooLong);
+        }
+        let mut octets = [0u8; N];
+        octets[..len].copy_from_slice(bytes);
+        Ok(Fixed { octets, len })
     }
 }

@@ -1,6 +1,6 @@
 //! The form that messages from outside must have: as prost writes them, with tags that rise, shortest varints and no unknown field.
 ghost use Rattle.std.specs.Prelude.{◌≡◌};
-ghost use Rattle.proto.specs.Form.{is_ascii, is_text, fits, absent, rule_at, form_of};
+ghost use Rattle.proto.specs.Form.{is_text, fits, absent, rule_at, form_of};
 ghost use Rattle.proto.specs.FormLaw.{FormsStand, TablesRise};
 ghost use Rattle.wire.specs.Read.{wire};
 
@@ -27,23 +27,12 @@ pub struct Rule {
     pub required: bool,
 }
 
-// Whether every octet is ASCII.
-fn is_ascii(bytes: &[u8]) -> bool
-    ensures { result ≡ is_ascii bytes.now }
-{
-    for b in bytes {
-        if *b >= 0x80 {
-            return false;
-        }
-    }
-    true
-}
-
 /// Whether these octets are a text: ASCII, and not longer than `limit`.
+#[tactic(auto, using(crate::proofs::Forms::ascii_is))]
 pub fn is_text(bytes: &[u8], limit: usize) -> bool
     ensures { result ≡ is_text limit bytes.now }
 {
-    bytes.len() <= limit && is_ascii(bytes)
+    bytes.len() <= limit && bytes.is_ascii()
 }
 
 impl Kind {
@@ -52,8 +41,7 @@ impl Kind {
     {
         match (self, field) {
             (Kind::Text, Field::Part { bytes, .. }) => is_text(bytes, 64),
-            (Kind::Bytes, Field::Part { .. }) => true,
-            (Kind::Uint64, Field::Varint { .. }) => true,
+            (Kind::Bytes, Field::Part { .. }) | (Kind::Uint64, Field::Varint { .. }) => true,
             (Kind::Uint32, Field::Varint { value, .. }) => value < 0x1_0000_0000,
             (Kind::Int32, Field::Varint { value, .. }) => {
                 value < 0x8000_0000 || value >= 0xffff_ffff_8000_0000
@@ -71,26 +59,17 @@ impl Rule {
         if at >= input.len() {
             return self.absent(at);
         }
-        let Ok((field, next)) = read_field(input, at) else {
-            return None;
-        };
+        let (field, next) = read_field(input, at).ok()?;
         if field.tag() != self.tag {
             return self.absent(at);
         }
-        if !field.is_shortest(next - at) {
-            return None;
-        }
-        if self.kind.fits(field) {
-            Some(next)
-        } else {
-            None
-        }
+        (field.is_shortest(next - at) && self.kind.fits(field)).then_some(next)
     }
 
     fn absent(self, at: usize) -> Option<usize>
         ensures { result ≡ absent self at }
     {
-        if self.required { None } else { Some(at) }
+        (!self.required).then_some(at)
     }
 }
 
@@ -99,6 +78,7 @@ pub fn conforms(rules: &[Rule], input: &[u8]) -> bool
     ensures { result ≡ form_of rules.now input.now }
 {
     let mut at = 0;
+    // Stays a loop: of `try_fold` only the calls of its closure are known, and not that each began where the one before it ended.
     for rule in rules {
         let Some(next) = rule.past(input, at) else {
             return false;
@@ -110,9 +90,7 @@ pub fn conforms(rules: &[Rule], input: &[u8]) -> bool
 
 /// What `conforms` takes are just the messages written from fields that their table allows, in its order, for every table whose
 /// tags rise, as those of datanodes and tokens do.
-pub fn forms_stand() -> u8
+pub fn forms_stand()
     ensures form { FormsStand }
     ensures tables { TablesRise }
-{
-    0
-}
+{}

@@ -30,10 +30,9 @@ impl Token {
         if !conforms(&TOKEN, message) {
             return None;
         }
-        match Fixed::copy_of(message) {
-            Some(message) => Some(Token { message }),
-            None => None,
-        }
+        Some(Token {
+            message: Fixed::try_from(message).ok()?,
+        })
     }
 
     pub fn as_bytes(&self) -> &[u8]

@@ -12,8 +12,6 @@ pub mod transfer_block;
 pub mod write_block;
 
 /// Every request that sets up a pipeline is read at the far end as what it asks for.
-pub fn requests_read_back() -> u8
+pub fn requests_read_back()
     ensures { RequestsReadBack }
-{
-    0
-}
+{}

@@ -19,10 +19,11 @@ struct Construction {
     latest_stamp: u64,
 }
 
+// Stays a macro, as those below: the parts borrow from the request, and as a result their type would have to be written out.
 macro_rules! construction_parts {
     ($it:expr) => {
         Then(
-            Uint { tag: 4, value: $it.stage.number() },
+            Uint { tag: 4, value: u64::from($it.stage) },
             Then(
                 Uint { tag: 5, value: $it.pipeline_size },
                 Then(

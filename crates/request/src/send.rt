@@ -15,7 +15,7 @@ const DATA_TRANSFER_VERSION: u16 = 28;
 pub trait Request: Message {
     const CODE: u8;
 
-    /// What `CODE` is to a contract.
+    /// What `CODE` is to a contract. Stays beside `op`: for a type with a lifetime no ghost `CODE` can be proved equal to the constant.
     ghost code: { ℕ };
 
     /// `CODE`, which ties it to what contracts say.

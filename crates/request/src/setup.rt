@@ -4,12 +4,14 @@ ghost use Rattle.request.specs.Setups.{message_of, no_setup, merge_setup, setup_
 ghost use Rattle.wire.specs.Read.{wire};
 ghost use Rattle.std.proofs.Common.{rules};
 
+use crate::send::Request;
+use crate::write_block::WriteBlock;
 use wire::decode::{Merge, decode};
 use wire::field::{Fault, Field};
-use wire::find::{find_number, find_part};
+use wire::find::find;
 use wire::varint::read_varint;
 
-/// The numbers of an `OpWriteBlockProto` that a pipeline is set up by.
+/// The numbers of an `OpWriteBlockProto` that a pipeline is set up by. They stay numbers: a far end may be sent a stage or a type that is not listed.
 #[derive(Clone, Copy, Debug, PartialEq, Eq)]
 pub struct Setup {
     pub stage: u64,
@@ -27,20 +29,14 @@ impl Setup {
     pub fn read(request: &[u8]) -> Option<Setup>
         ensures { result ≡ setup_of request.now }
     {
-        match message_of(request, 80) {
-            Some(message) => match decode::<Setup>(message) {
-                Ok(setup) => Some(setup),
-                Err(_) => None,
-            },
-            None => None,
-        }
+        decode(message_of(request, WriteBlock::CODE)?).ok()
     }
 
     fn number(self, tag: u32, value: u64) -> Result<Setup, Fault>
         ensures { result ≡ merge_number self tag value }
     {
         match tag {
-            1 => Err(Fault::WireType),
+            1 | 9 => Err(Fault::WireType),
             4 => Ok(Setup {
                 stage: value,
                 ..self
@@ -61,7 +57,6 @@ impl Setup {
                 latest_stamp: value,
                 ..self
             }),
-            9 => Err(Fault::WireType),
             _ => Ok(self),
         }
     }
@@ -71,20 +66,16 @@ impl Setup {
     {
         match tag {
             1 => {
-                let block = find_part(find_part(bytes, 1), 1);
+                let block: &[u8] = find(find(bytes, 1), 1);
                 Ok(Setup {
-                    stamp: find_number(block, 3),
+                    stamp: find(block, 3),
                     ..self
                 })
             }
-            4 => Err(Fault::WireType),
-            5 => Err(Fault::WireType),
-            6 => Err(Fault::WireType),
-            7 => Err(Fault::WireType),
-            8 => Err(Fault::WireType),
+            4..=8 => Err(Fault::WireType),
             9 => Ok(Setup {
-                checksum_type: find_number(bytes, 1),
-                chunk_size: find_number(bytes, 2),
+                checksum_type: find(bytes, 1),
+                chunk_size: find(bytes, 2),
                 ..self
             }),
             _ => Ok(self),
@@ -96,13 +87,7 @@ impl Setup {
         ensures { result ≡ refuses self tag }
     {
         match tag {
-            1 => Err(Fault::WireType),
-            4 => Err(Fault::WireType),
-            5 => Err(Fault::WireType),
-            6 => Err(Fault::WireType),
-            7 => Err(Fault::WireType),
-            8 => Err(Fault::WireType),
-            9 => Err(Fault::WireType),
+            1 | 4..=9 => Err(Fault::WireType),
             _ => Ok(self),
         }
     }
@@ -133,9 +118,8 @@ impl Merge for Setup {
     fn merge_field(self, field: Field<'_>) -> Result<Setup, Fault> {
         match field {
             Field::Varint { tag, value, .. } => self.number(tag, value),
-            Field::Fixed64 { tag, .. } => self.fixed(tag),
             Field::Part { tag, bytes, .. } => self.part(tag, bytes),
-            Field::Fixed32 { tag, .. } => self.fixed(tag),
+            Field::Fixed64 { tag, .. } | Field::Fixed32 { tag, .. } => self.fixed(tag),
         }
     }
 }
@@ -144,21 +128,13 @@ impl Merge for Setup {
 fn message_of(request: &[u8], code: u8) -> Option<&[u8]>
     ensures { seen_part result ≡ message_of code request.now }
 {
-    if request.len() < 3 {
-        return None;
-    }
-    if request[0] != 0 {
-        return None;
-    }
-    if request[1] != 28 {
-        return None;
-    }
-    if request[2] != code {
-        return None;
-    }
-    let Ok((size, from)) = read_varint(request, 3) else {
+    let [0, 28, found, ..] = request else {
         return None;
     };
+    if *found != code {
+        return None;
+    }
+    let (size, from) = read_varint(request, 3).ok()?;
     if size != (request.len() - from) as u64 {
         return None;
     }

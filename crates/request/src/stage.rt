@@ -13,12 +13,12 @@ pub enum Stage {
     SetupCreate,
 }
 
-impl Stage {
-    /// Its number in `BlockConstructionStage`.
-    pub fn number(self) -> u64
-        ensures { result ≡ stage_number self }
-    {
-        match self {
+/// Its number in `BlockConstructionStage`.
+impl From<Stage> for u64 {
+    ghost from_gives = { λ stage number. number ≡ stage_number stage };
+
+    fn from(stage: Stage) -> u64 {
+        match stage {
             Stage::SetupAppend => 0,
             Stage::SetupStreamingRecovery => 3,
             Stage::SetupCreate => 6,

@@ -4,7 +4,7 @@ ghost use Rattle.wire.specs.Fields.{varint, part};
 ghost use Rattle.proto.specs.Messages.{held, info_of};
 
 use proto::datanode::Datanode;
-use wire::encode::{Bytes, FieldOf, Message, Uint};
+use wire::encode::{Bytes, FieldOf, OneField, Uint};
 
 /// `targets`: each datanode.
 #[derive(Clone, Copy)]
@@ -13,20 +13,11 @@ pub struct TargetInfo;
 impl FieldOf<Datanode> for TargetInfo {
     ghost field = { λ d. part 2 (info_of d) };
 
-    fn field_len(row: &Datanode) -> usize {
-        Bytes {
+    fn field_of(row: &Datanode) -> OneField<'_> {
+        OneField::Bytes(Bytes {
             tag: 2,
             bytes: row.info(),
-        }
-        .encoded_len()
-    }
-
-    fn put_field(row: &Datanode, out: &mut [u8]) {
-        Bytes {
-            tag: 2,
-            bytes: row.info(),
-        }
-        .encode(out)
+        })
     }
 }
 
@@ -37,20 +28,11 @@ pub struct TargetStorageType;
 impl FieldOf<Datanode> for TargetStorageType {
     ghost field = { λ d. varint 12 d.storage_type };
 
-    fn field_len(row: &Datanode) -> usize {
-        Uint {
+    fn field_of(row: &Datanode) -> OneField<'_> {
+        OneField::Uint(Uint {
             tag: 12,
             value: u64::from(row.storage_type()),
-        }
-        .encoded_len()
-    }
-
-    fn put_field(row: &Datanode, out: &mut [u8]) {
-        Uint {
-            tag: 12,
-            value: u64::from(row.storage_type()),
-        }
-        .encode(out)
+        })
     }
 }
 
@@ -61,19 +43,10 @@ pub struct TargetStorageId;
 impl FieldOf<Datanode> for TargetStorageId {
     ghost field = { λ d. part 17 (held d.storage_id) };
 
-    fn field_len(row: &Datanode) -> usize {
-        Bytes {
+    fn field_of(row: &Datanode) -> OneField<'_> {
+        OneField::Bytes(Bytes {
             tag: 17,
             bytes: row.storage_id(),
-        }
-        .encoded_len()
-    }
-
-    fn put_field(row: &Datanode, out: &mut [u8]) {
-        Bytes {
-            tag: 17,
-            bytes: row.storage_id(),
-        }
-        .encode(out)
+        })
     }
 }

@@ -1,7 +1,7 @@
 -- The octets of fields, joined and split. Assumes nothing.
 use Rattle.std.proofs.Common.{◌≡◌, ℕ, ◌+◌, ◌-◌, ◌*◌, ◌<◌, ◌≤◌, List, [], ◌∷◌, ◌++◌, map, length, get_or, take, drop, sym, refl, ap, ◌∙◌, add-zero, arith}
 use borrow.Rule.Slice.PartMut.{put_mid}
-use Rattle.std.proofs.lemmas.List.{append_assoc, append-nil, length-append, map-append, drop_more, drop_all, take_more, take_all}
+use Rattle.std.proofs.lemmas.List.{append_assoc, append-nil, length-append, map-append, drop_more, drop_all, take_more}
 use Rattle.wire.specs.Octets.{little}
 use Rattle.wire.specs.Fields.{WireField, varint, fixed64, part, fixed32, varint_bytes, key, prefix, encode, encode_all}
 use Rattle.wire.proofs.Front.{start, put, done}
@@ -88,6 +88,3 @@ module _ {T : Type 0} (f : T → WireField) (rows : List T) (i : ℕ) (x : T) (h
 pub none_left : {T : Type 0} (f : T → WireField) (rows : List T) (i : ℕ) → length rows ≤ i → encode_all (map f (drop i rows)) ≡ []
 unfolding encode_all
 none_left f rows i h = ap (λ z. encode_all (map f z)) (drop_all i rows h)
-
-pub all_done : {T : Type 0} (f : T → WireField) (rows : List T) (i : ℕ) → length rows ≤ i → encode_all (map f (take i rows)) ≡ encode_all (map f rows)
-all_done f rows i h = ap (λ z. encode_all (map f z)) (take_all i rows h)

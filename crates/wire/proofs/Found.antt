@@ -3,7 +3,7 @@ use Rattle.std.proofs.Common.{◌≡◌, ℕ, List, [], ◌∷◌, ◌++◌, map
 use Rattle.wire.specs.declared.field.DecodeError.{DecodeError}
 use Rattle.wire.specs.declared.field.Fault.{Fault}
 use Rattle.wire.specs.Fields.{WireField, encode_all}
-use Rattle.wire.specs.Find.{pick_part, pick_number, read_or, part_of, number_of}
+use Rattle.wire.specs.Find.{pick_part, pick_number, read_or, found, part_of, number_of}
 use Rattle.wire.specs.Laws.{Sound, AllSound, merge_all, unplaced}
 use Rattle.wire.specs.Read.{and_then, decoded}
 use Rattle.wire.proofs.Back.{decode_back}
@@ -23,11 +23,11 @@ module _ {S : Type 0} (merge : S → WireField → Result S Fault) where
   rows_skipped f s h (x ∷ rows) fs = ap (λ z. and_then z (λ t. merge_all merge t (map f rows ++ fs))) (h x) ∙ rows_skipped f s h rows fs
 
 pub part_found : (tag : ℕ) (fs : List WireField) (bs : List ℕ) → AllSound fs → merge_all (λ s f. Ok (pick_part tag s f)) [] fs ≡ Ok bs → part_of tag (encode_all fs) ≡ bs
-unfolding part_of
+unfolding found
 part_found tag fs bs sound h = ap (read_or []) (decoded_is (λ s f. Ok (pick_part tag s f)) [] bs fs sound h)
 
 pub number_found : (tag : ℕ) (fs : List WireField) (n : ℕ) → AllSound fs → merge_all (λ s f. Ok (pick_number tag s f)) 0 fs ≡ Ok n → number_of tag (encode_all fs) ≡ n
-unfolding number_of
+unfolding found
 number_found tag fs n sound h = ap (read_or 0) (decoded_is (λ s f. Ok (pick_number tag s f)) 0 n fs sound h)
 
 -- fields one after another, and a field for each row

@@ -1,9 +1,9 @@
--- A varint as it is written: one octet more, and the last. Assumes nothing.
+-- A varint as it is written: one octet more. Assumes nothing.
 use Rattle.std.proofs.Common.{◌≡◌, ℕ, suc, ◌+◌, ◌-◌, ◌*◌, ◌/◌, ◌%◌, ◌^◌, ◌<◌, ◌≤◌, ltb, List, [], ◌∷◌, ◌++◌, length, take, set, sym, refl, ap, ◌∙◌, subst, ⊎_elim, div-lt_iff_lt-mul, arith, length-set, pow_mono}
 use lib.Bits.{bit_and, bit_or}
 use Rattle.std.proofs.lemmas.Nat.{pow-add, and_mask, or_comm, or_shifted}
-use Rattle.std.proofs.lemmas.List.{append_assoc, take_more_set, length-take-le}
-use Rattle.std.proofs.lemmas.Bool.{cond-true, cond-false, lt-ltb, le-ltb, cases_lt}
+use Rattle.std.proofs.lemmas.List.{append_assoc, take_more_set}
+use Rattle.std.proofs.lemmas.Bool.{cond-false, le-ltb, cases_lt}
 use Rattle.wire.specs.Fields.{groups, varint_bytes}
 
 -- the first i octets of xs are written, and those of n are left
@@ -51,17 +51,3 @@ module _ {value : ℕ} {xs : List ℕ} {i n : ℕ} (w : Writing value xs i n) wh
             ∙ ap (λ z. take i xs ++ z) (sym (ap (λ z. groups z n) j ∙ cond-false (ltb n 128) _ _ (le-ltb n 128 h)))
             ∙ w.is;
       }
-
-  pub last : n < 128 → take (i + 1) (set xs i n) ≡ varint_bytes value
-  last h =
-      let in-range : i < length xs = omega (arith, w.room, w.early) in
-      let j : 10 - i ≡ suc (10 - (i + 1)) = omega (arith, w.early) in
-      take_more_set xs i n in-range
-      ∙ ap (λ z. take i xs ++ z) (sym (ap (λ z. groups z n) j ∙ cond-true (ltb n 128) _ _ (lt-ltb n 128 h)))
-      ∙ w.is
-
-  pub last_length : n < 128 → i + 1 ≡ length (varint_bytes value)
-  last_length h =
-      let e : length (set xs i n) ≡ 10 = simp length-set w.room in
-      let k : length (take (i + 1) (set xs i n)) ≡ i + 1 = length-take-le (i + 1) (set xs i n) (omega (arith, w.early)) in
-      sym k ∙ ap length (last h)

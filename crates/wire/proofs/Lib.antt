@@ -8,3 +8,4 @@ pub mod Messages
 pub mod Shortest
 pub mod Values
 pub mod Varints
+pub mod Words

@@ -1,5 +1,5 @@
 -- A message read field by field: what a loop has read so far, and what each turn adds. Assumes nothing.
-use Rattle.std.proofs.Common.{◌≡◌, ℕ, zero, suc, ◌+◌, ◌<◌, ◌≤◌, Bool, true, false, cond, ltb, List, length, Ok, Err, Result, sym, refl, ap, ◌∙◌, arith}
+use Rattle.std.proofs.Common.{◌≡◌, ℕ, zero, suc, ◌+◌, ◌<◌, ◌≤◌, Bool, true, false, cond, ltb, List, length, Ok, Err, Result, MatchResult, sym, refl, ap, ◌∙◌, arith}
 use Rattle.std.proofs.lemmas.Bool.{cond-true, cond-false, lt-ltb, le-ltb}
 use Rattle.wire.specs.declared.field.Fault.{Fault}
 use Rattle.wire.specs.declared.field.DecodeError.{DecodeError}
@@ -20,14 +20,10 @@ turn : {S : Type 0} (merge : S → WireField → Result S Fault) (bs : List ℕ)
 turn merge bs at s zero h e = absurd (omega arith)
 turn merge bs at s (suc k) h e = (k, (refl, cond-true (ltb at (length bs)) _ _ (lt-ltb _ _ h)))
 
--- what stands behind a fault with its place
-pub fault_of : {X : Type 0} (at : ℕ) (r : Result X Fault) (d : DecodeError) → Err d ≡ in_place at r → (e : Fault) × ((r ≡ Err e) × (d ≡ record { place = at; fault = e }))
-fault_of at (Ok x) d h = let z : ◌≡◌ {A = ℕ} 0 1 = cc in absurd (omega arith)
-fault_of at (Err e) d h = (e, (refl, cc))
-
-pub value_of : {X : Type 0} (at : ℕ) (r : Result X Fault) (x : X) → Ok x ≡ in_place at r → r ≡ Ok x
-value_of at (Ok y) x h = cc
-value_of at (Err e) x h = let z : ◌≡◌ {A = ℕ} 0 1 = cc in absurd (omega arith)
+-- what `map_err` was given, where it puts its place beside a fault
+pub unmapped_value : {X : Type 0} (r : Result X Fault) (x : X) → MatchResult r (λ y. ◌≡◌ {A = Result X DecodeError} (Ok x) (Ok y)) (λ e. ⊥) → r ≡ Ok x
+unmapped_value (Ok y) x h = cc
+unmapped_value (Err e) x h = absurd h
 
 module _ {S : Type 0} {merge : S → WireField → Result S Fault} {size : S → ℕ} {none : S} where
   pub begin : (bs : List ℕ) → size none ≡ 0 → Sofar merge size none bs 0 none
@@ -42,17 +38,14 @@ module _ {S : Type 0} {merge : S → WireField → Result S Fault} {size : S →
       stop (suc k) e = sym (cond-false (ltb at (length bs)) _ _ (le-ltb _ _ h)) ∙ e
 
   module _ {bs : List ℕ} {at : ℕ} {s : S} (f : Sofar merge size none bs at s) (h : at < length bs) where
-    pub no_field : (e : Fault) → read_field at bs ≡ Err e → Err (record { place = at; fault = e }) ≡ decoded merge none bs
-    no_field e r = let t = turn merge bs at s f.fuel h f.enough in sym (t.1.1 ∙ ap (λ z. and_then (in_place at z) (λ x. and_then (in_place at (merge s x.0)) (λ u. decode_from merge t.0 u x.1 bs))) r) ∙ f.leads
+    pub no_field : (d : DecodeError) → in_place at (read_field at bs) ≡ Err d → Err d ≡ decoded merge none bs
+    no_field d r = let t = turn merge bs at s f.fuel h f.enough in sym (t.1.1 ∙ ap (λ z. and_then z (λ x. and_then (in_place at (merge s x.0)) (λ u. decode_from merge t.0 u x.1 bs))) r) ∙ f.leads
 
     module _ (w : WireField) (next : ℕ) (r : read_field at bs ≡ Ok (w, next)) where
       step : (j : ℕ) (m : Result S Fault) → merge s w ≡ m → and_then (in_place at (read_field at bs)) (λ x. and_then (in_place at (merge s x.0)) (λ t. decode_from merge j t x.1 bs)) ≡ and_then (in_place at m) (λ t. decode_from merge j t next bs)
       step j m e =
           ap (λ z. and_then (in_place at z) (λ x. and_then (in_place at (merge s x.0)) (λ t. decode_from merge j t x.1 bs))) r
           ∙ ap (λ z. and_then (in_place at z) (λ t. decode_from merge j t next bs)) e
-
-      pub no_merge : (e : Fault) → merge s w ≡ Err e → Err (record { place = at; fault = e }) ≡ decoded merge none bs
-      no_merge e m = let t = turn merge bs at s f.fuel h f.enough in sym (t.1.1 ∙ step t.0 (Err e) m) ∙ f.leads
 
       pub more : (t : S) → merge s w ≡ Ok t → at < next → at + weight w ≤ next → next ≤ length bs → size t ≤ size s + weight w → Sofar merge size none bs next t
       more t m lt fits le small =

@@ -1,11 +1,10 @@
 -- One byte of a varint, as the loop takes it. Assumes nothing.
-use Rattle.std.proofs.Common.{◌≡◌, ℕ, ◌+◌, ◌-◌, ◌*◌, ◌%◌, ◌^◌, ◌<◌, ◌≤◌, ltb, ◌⊎◌, List, ◌∷◌, length, get_or, drop, Ok, Err, sym, ap, ◌∙◌, subst, ⊎_elim, arith, pow_mono}
+use Rattle.std.proofs.Common.{◌≡◌, ℕ, ◌+◌, ◌-◌, ◌*◌, ◌%◌, ◌^◌, ◌<◌, ◌≤◌, ltb, ◌⊎◌, List, drop, Ok, sym, ap, ◌∙◌, subst, ⊎_elim, arith, pow_mono}
 use lib.Bits.{bit_and, bit_or}
 use Rattle.std.proofs.lemmas.Nat.{pow-add, and_mask, or_comm, or_shifted, shl_whole, mul-add-lt}
-use Rattle.std.proofs.lemmas.List.{at_drop_more, at_drop_all}
-use Rattle.std.proofs.lemmas.Bool.{cond-true, cond-false, lt-ltb, le-ltb, cases_lt}
-use Rattle.wire.specs.declared.field.Fault.TheVariants as fault
+use Rattle.std.proofs.lemmas.Bool.{cond-true, cond-false, lt-ltb, le-ltb}
 use Rattle.wire.specs.Read.{varint_from}
+use Rattle.wire.specs.Steps.{More, Whole, step_of}
 
 -- the digit d of at most j bits at place k leaves room in 64 bits
 sum_lt : (v d k j : ℕ) → v < 2 ^ k → d < 2 ^ j → v + d * 2 ^ k < 2 ^ (k + j)
@@ -45,38 +44,26 @@ module _ {t v b d : ℕ} (h : Turn t v b d) where
       (λ n. let s = sum_lt v d (7 * t) 7 h.low (omega (arith, is_rest)) in let m : 2 ^ (7 * t + 7) ≤ 2 ^ 64 = pow_mono {j = 64} (omega (arith, h.under)) in omega arith)
       h.fit
 
-  pub last : (at : ℕ) (bs : List ℕ) → b < 128 → Ok (v + d * 2 ^ (7 * t), at + 1) ≡ varint_from (7 * t) v at (b ∷ bs)
-  last at bs lt =
+  pub last : b < 128 → Ok (Whole (v + d * 2 ^ (7 * t))) ≡ step_of v t b
+  last lt =
       let e : d ≡ b = omega (arith, is_rest) in
       let r : v + b * 2 ^ (7 * t) < 2 ^ 64 = subst (λ x. v + x * 2 ^ (7 * t) < 2 ^ 64) e room in
-      ap (λ x. Ok (v + x * 2 ^ (7 * t), at + 1)) e
+      ap (λ x. Ok (Whole (v + x * 2 ^ (7 * t)))) e
       ∙ sym (cond-true (ltb b 128) _ _ (lt-ltb b 128 lt) ∙ cond-true (ltb (v + b * 2 ^ (7 * t)) (2 ^ 64)) _ _ (lt-ltb _ _ r))
 
   pub not_tenth : 128 ≤ b → t < 9
   not_tenth ge = ⊎_elim (λ w. omega arith) (λ n. omega (arith, h.under)) h.fit
 
-  pub goes : (at : ℕ) (bs : List ℕ) → 128 ≤ b → varint_from (7 * (t + 1)) (v + d * 2 ^ (7 * t)) (at + 1) bs ≡ varint_from (7 * t) v at (b ∷ bs)
-  goes at bs ge =
+  pub goes : 128 ≤ b → Ok (More (v + d * 2 ^ (7 * t)) (t + 1)) ≡ step_of v t b
+  goes ge =
       let e : d ≡ b - 128 = omega (arith, is_rest, h.byte) in
-      let k : 7 * (t + 1) ≡ 7 * t + 7 = omega arith in
       let nine = not_tenth ge in
-      (λ i. varint_from (k i) (v + e i * 2 ^ (7 * t)) (at + 1) bs)
+      ap (λ x. Ok (More (v + x * 2 ^ (7 * t)) (t + 1))) e
       ∙ sym (cond-false (ltb b 128) _ _ (le-ltb b 128 ge) ∙ cond-true (ltb (7 * t) 63) _ _ (lt-ltb _ _ (omega arith)))
 
   pub grows : v + d * 2 ^ (7 * t) < 2 ^ (7 * (t + 1))
   grows = let s = sum_lt v d (7 * t) 7 h.low (omega (arith, is_rest)) in let k : 7 * (t + 1) ≡ 7 * t + 7 = omega arith in rw k s
 
--- the tenth byte is too large
-pub over : (v at b : ℕ) (bs : List ℕ) → 1 < b → Err fault.Varint ≡ varint_from 63 v at (b ∷ bs)
-over v at b bs h =
-    ⊎_elim
-    (λ lt. sym (cond-true (ltb b 128) _ _ (lt-ltb b 128 lt) ∙ cond-false (ltb (v + b * 2 ^ 63) (2 ^ 64)) _ _ (le-ltb _ _ (omega arith))))
-    (λ ge. sym (cond-false (ltb b 128) _ _ (le-ltb b 128 ge)))
-    (cases_lt b 128)
-
--- the byte at i of the input
-pub at_byte : (k v i : ℕ) (xs : List ℕ) → i < length xs → varint_from k v i (drop i xs) ≡ varint_from k v i (get_or xs i 0 ∷ drop (i + 1) xs)
-at_byte k v i xs h = at_drop_more (varint_from k v i) xs i 0 h
-
-pub at_end : (k v i : ℕ) (xs : List ℕ) → length xs ≤ i → varint_from k v i (drop i xs) ≡ Err fault.End
-at_end k v i xs h = at_drop_all (varint_from k v i) xs i h
+-- the first i octets of xs have been read, and the rest leads on to the varint at `at`
+pub record Sofar (xs : List ℕ) (at i low turn : ℕ) : Type 0 where
+  pub leads : varint_from (7 * turn) low (at + i) (drop i xs) ≡ varint_from 0 0 at xs

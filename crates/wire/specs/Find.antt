@@ -21,8 +21,12 @@ abbrev pub read_or : {X : Type 0} → X → Result X DecodeError → X
 read_or d (Ok x) = x
 read_or d (Err e) = d
 
-unfoldable pub part_of : ℕ → List ℕ → List ℕ
-part_of t bs = read_or [] (decoded (λ s f. Ok (pick_part t s f)) [] bs)
+-- the last value that `pick` finds of that tag, and `none` where there is none, or where the message has a fault
+unfoldable pub found : {X : Type 0} → (ℕ → X → WireField → X) → X → ℕ → List ℕ → X
+found pick none t bs = read_or none (decoded (λ s f. Ok (pick t s f)) none bs)
 
-unfoldable pub number_of : ℕ → List ℕ → ℕ
-number_of t bs = read_or 0 (decoded (λ s f. Ok (pick_number t s f)) 0 bs)
+abbrev pub part_of : ℕ → List ℕ → List ℕ
+part_of = found pick_part []
+
+abbrev pub number_of : ℕ → List ℕ → ℕ
+number_of = found pick_number 0

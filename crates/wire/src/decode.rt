@@ -1,10 +1,11 @@
 //! A message, field by field.
 ghost use Rattle.std.specs.Prelude.{◌≡◌, ℕ, ◌+◌, ◌^◌, ◌<◌, ◌≤◌, length, IfOk, Result};
 ghost use Rattle.wire.specs.Fields.{WireField};
-ghost use Rattle.wire.specs.Read.{wire, weight, in_place, decoded};
+ghost use Rattle.wire.specs.Read.{wire, weight, decoded};
 ghost use Rattle.wire.specs.declared.field.Fault.{Fault};
 
-use crate::field::{DecodeError, Fault, Field, read_field};
+use crate::field::{DecodeError, Fault, Field};
+use crate::fields::Fields;
 
 /// What is read of a message: begun with nothing, and joined with each field in turn.
 pub trait Merge: Sized {
@@ -33,21 +34,12 @@ pub fn decode<M: Merge + Drop>(input: &[u8]) -> Result<M, DecodeError>
     ensures { result ≡ decoded M.Merge.merges M.Merge.none input.now }
 {
     let mut message = M::empty();
-    let mut at = 0;
-    while at < input.len() {
-        let (field, next) = located(at, read_field(input, at))?;
-        message = located(at, message.merge_field(field))?;
-        at = next;
+    for field in Fields::of(input) {
+        let field = field?;
+        let place = field.place();
+        message = message
+            .merge_field(field)
+            .map_err(|fault| DecodeError { place, fault })?;
     }
     Ok(message)
-}
-
-// A fault, with its place.
-fn located<T>(place: usize, read: Result<T, Fault>) -> Result<T, DecodeError>
-    ensures { result ≡ in_place place read }
-{
-    match read {
-        Ok(x) => Ok(x),
-        Err(fault) => Err(DecodeError { place, fault }),
-    }
 }

@@ -2,6 +2,7 @@
 ghost use Rattle.std.specs.Prelude.{◌≡◌, ℕ, ◌+◌, ◌*◌, ◌^◌, ◌<◌, ◌≤◌, List, [], ◌∷◌, ◌++◌, map, length, Some, None, ◌==◌};
 ghost use Rattle.wire.specs.Fields.{WireField, varint, part, key, prefix, encode, encode_all};
 ghost use Rattle.wire.specs.Read.{wire};
+ghost use Rattle.wire.specs.One.{one_field};
 
 use crate::field::Field;
 use crate::varint::EncodedVarint;
@@ -164,17 +165,37 @@ impl<A: Message, B: Message> Message for Then<A, B> {
     }
 }
 
+/// One field, of either kind.
+#[derive(Clone, Copy)]
+pub enum OneField<'a> {
+    Uint(Uint),
+    Bytes(Bytes<'a>),
+}
+
+impl<'a> Message for OneField<'a> {
+    ghost fields = { λ f. one_field f ∷ [] };
+
+    fn encoded_len(&self) -> usize {
+        match self {
+            OneField::Uint(field) => field.encoded_len(),
+            OneField::Bytes(field) => field.encoded_len(),
+        }
+    }
+
+    fn encode(&self, out: &mut [u8]) {
+        match self {
+            OneField::Uint(field) => field.encode(out),
+            OneField::Bytes(field) => field.encode(out),
+        }
+    }
+}
+
 /// How one row of a table is written as a field.
 pub trait FieldOf<T> {
     ghost field: { T → WireField };
 
-    fn field_len(row: &T) -> usize
-        requires { length (encode_all (field row.now ∷ [])) < 2 ^ 64 }
-        ensures { result ≡ length (encode_all (field row.now ∷ [])) };
-
-    fn put_field(row: &T, out: &mut [u8])
-        requires { length out.old ≡ length (encode_all (field row.now ∷ [])) }
-        ensures { out.new ≡ encode_all (field row.now ∷ []) };
+    fn field_of(row: &T) -> OneField<'_>
+        ensures { one_field result ≡ field row.now };
 }
 
 /// A repeated field: one for each row, in the order of the rows.
@@ -189,8 +210,9 @@ impl<'a, T, F: FieldOf<T>> Message for Each<'a, T, F> {
 
     fn encoded_len(&self) -> usize {
         let mut size = 0;
+        // Stays a loop: that each field is within the message is known row by row, and a chain's `sum` asks for it beforehand.
         for row in self.rows {
-            size += F::field_len(row);
+            size += F::field_of(row).encoded_len();
         }
         size
     }
@@ -198,8 +220,9 @@ impl<'a, T, F: FieldOf<T>> Message for Each<'a, T, F> {
     fn encode(&self, out: &mut [u8]) {
         let mut at = 0;
         for row in self.rows {
-            let next = at + F::field_len(row);
-            F::put_field(row, &mut out[at..next]);
+            let field = F::field_of(row);
+            let next = at + field.encoded_len();
+            field.encode(&mut out[at..next]);
             at = next;
         }
     }

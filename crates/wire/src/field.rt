@@ -2,7 +2,8 @@
 ghost use Rattle.std.specs.Prelude.{◌≡◌, ◌+◌, ◌/◌, ◌<◌, ◌≤◌, length, IfOk, if◌then◌else◌, Ok, Err};
 ghost use Rattle.wire.specs.declared.field.Fault.TheVariants.{Key};
 ghost use Rattle.wire.specs.Fields.{tag_of};
-ghost use Rattle.wire.specs.Read.{is_tag, fixed_at, read_field, seen, wire, place_of, weight};
+ghost use Rattle.wire.specs.Read.{is_tag, fixed_at, read_field, and_then, seen, wire, place_of, weight};
+ghost use Rattle.wire.specs.Octets.{from_little};
 
 use crate::varint::read_varint;
 
@@ -56,40 +57,34 @@ impl Field<'_> {
         ensures { result ≡ tag_of (wire self.now) }
     {
         match self {
-            Field::Varint { tag, .. } => *tag,
-            Field::Fixed64 { tag, .. } => *tag,
-            Field::Part { tag, .. } => *tag,
-            Field::Fixed32 { tag, .. } => *tag,
+            Field::Varint { tag, .. }
+            | Field::Fixed64 { tag, .. }
+            | Field::Part { tag, .. }
+            | Field::Fixed32 { tag, .. } => *tag,
+        }
+    }
+
+    /// Where its key begins.
+    pub fn place(&self) -> usize
+        ensures { result ≡ place_of self.now }
+    {
+        match self {
+            Field::Varint { place, .. }
+            | Field::Fixed64 { place, .. }
+            | Field::Part { place, .. }
+            | Field::Fixed32 { place, .. } => *place,
         }
     }
 }
 
-// The eight octets at `at`, the lowest first.
-fn fixed64(input: &[u8], at: usize) -> Result<(u64, usize), Fault>
-    ensures value { result ≡ fixed_at 8 at input.now }
-    ensures within { IfOk result (λ x. (at < x.1) × (x.1 ≤ length input.now)) }
+// The `N` octets at `at`, and the place past them.
+fn fixed<const N: usize>(input: &[u8], at: usize) -> Result<([u8; N], usize), Fault>
+    ensures value { and_then result (λ x. Ok (from_little x.0, x.1)) ≡ fixed_at N at input.now }
+    ensures within { IfOk result (λ x. (at + N ≡ x.1) × (x.1 ≤ length input.now)) }
 {
-    let n = input.len();
-    if n < 8 || at > n - 8 {
-        return Err(Fault::End);
-    }
-    let mut bytes = [0u8; 8];
-    bytes.copy_from_slice(&input[at..at + 8]);
-    Ok((u64::from_le_bytes(bytes), at + 8))
-}
-
-// The four octets at `at`, the lowest first.
-fn fixed32(input: &[u8], at: usize) -> Result<(u32, usize), Fault>
-    ensures value { result ≡ fixed_at 4 at input.now }
-    ensures within { IfOk result (λ x. (at < x.1) × (x.1 ≤ length input.now)) }
-{
-    let n = input.len();
-    if n < 4 || at > n - 4 {
-        return Err(Fault::End);
-    }
-    let mut bytes = [0u8; 4];
-    bytes.copy_from_slice(&input[at..at + 4]);
-    Ok((u32::from_le_bytes(bytes), at + 4))
+    let rest = input.get(at..).ok_or(Fault::End)?;
+    let bytes = rest.first_chunk::<N>().ok_or(Fault::End)?;
+    Ok((*bytes, at + N))
 }
 
 // The tag of a key: 1 to 2^29 - 1.
@@ -104,7 +99,7 @@ fn tag_of(key: u64) -> Result<u32, Fault>
 }
 
 /// The field whose key stands at `at`, and the place past it. First the value is read, then the tag is looked at, then the wire type.
-#[tactic(auto, unfolding(crate::specs::Read::read_field))]
+#[tactic(auto, using(crate::proofs::Words::word_four, crate::proofs::Words::word_eight), unfolding(crate::specs::Read::read_field))]
 pub fn read_field(input: &[u8], at: usize) -> Result<(Field<'_>, usize), Fault>
     ensures value { seen result ≡ read_field at input.now }
     ensures within { IfOk result (λ x. (place_of x.0 ≡ at) × (at < x.1) × (at + weight (wire x.0) ≤ x.1) × (x.1 ≤ length input.now)) }
@@ -124,13 +119,13 @@ pub fn read_field(input: &[u8], at: usize) -> Result<(Field<'_>, usize), Fault>
             ))
         }
         1 => {
-            let (value, next) = fixed64(input, here)?;
+            let (bytes, next) = fixed::<8>(input, here)?;
             let tag = tag_of(key)?;
             Ok((
                 Field::Fixed64 {
                     tag,
                     place: at,
-                    value,
+                    value: u64::from_le_bytes(bytes),
                 },
                 next,
             ))
@@ -152,13 +147,13 @@ pub fn read_field(input: &[u8], at: usize) -> Result<(Field<'_>, usize), Fault>
             ))
         }
         5 => {
-            let (value, next) = fixed32(input, here)?;
+            let (bytes, next) = fixed::<4>(input, here)?;
             let tag = tag_of(key)?;
             Ok((
                 Field::Fixed32 {
                     tag,
                     place: at,
-                    value,
+                    value: u32::from_le_bytes(bytes),
                 },
                 next,
             ))

@@ -8,19 +8,16 @@ use decode::Merge;
 pub mod decode;
 pub mod encode;
 pub mod field;
+pub mod fields;
 pub mod find;
 pub mod varint;
 
 /// A field is read back as it was written, wherever it stands.
-pub fn fields_read_back() -> u8
+pub fn fields_read_back()
     ensures { ReadBack }
-{
-    0
-}
+{}
 
 /// A message is read back as the fields it was written from, whatever a reader of type `M` makes of these.
-pub fn messages_read_back<M: Merge>() -> u8
+pub fn messages_read_back<M: Merge>()
     ensures { DecodeBack M }
-{
-    0
-}
+{}

@@ -1,14 +1,12 @@
-use Rattle.std.proofs.Common.{Ok, ap, ◌∙◌}
-use Rattle.wire.specs.Read.{and_then}
-use Rattle.ack.specs.Acks.{ack_of}
-use Rattle.ack.specs.Held.{ack_read}
-use Rattle.ack.specs.Verdicts.{verdict_of, verdict_on}
-use Rattle.ack.proofs.Judges.{verdict_held}
+use Rattle.std.proofs.Common.{Ok, Err, ap, ◌∙◌}
+use Rattle.std.proofs.lemmas.Result.{err_from_is_err_and}
+use Rattle.ack.proofs.Judges.{judged_as}
 use Rattle.ack.proofs.ack.judge.Goals as goal
 
+pub returns-in_err-ack : goal.returns-in_err-ack
+returns-in_err-ack c =
+    let p = err_from_is_err_and c.from_residual.result c.from_residual.ensures.1 in
+    rw (p.1, p.2) (judged_as c.args.input.now (Err _) c.in_err-ack.ensures)
+
 pub returns : goal.returns
-unfolding ack_read verdict_on
-returns c =
-    c.verdict_on.ensures
-    ∙ ap (λ r. and_then r (λ p. Ok (verdict_of p.seqno p.replies.failed))) c.read.ensures
-    ∙ verdict_held (ack_of c.args.input.now)
+returns c = ap Ok c.verdict.ensures ∙ judged_as c.args.input.now (Ok c.in_ok-ack.ack) c.in_ok-ack.ensures

@@ -1,23 +1,28 @@
 use Rattle.std.proofs.Common.{◌&&◌, sym, ap, ◌∙◌}
-use Rattle.std.proofs.lemmas.Bool.{le-leb, lt-leb, and_left, and_right}
+use Rattle.std.proofs.lemmas.Bool.{le-leb, lt-leb, and_left, and_right, both_ways}
 use Rattle.wire.specs.Find.{part_of}
 use Rattle.proto.specs.Form.{form_of}
 use Rattle.proto.specs.Rules.{is_datanode, datanode_info, datanode_id}
 use Rattle.proto.proofs.datanode.is_datanode.Goals as goal
+use Rattle.proto.proofs.datanode.is_datanode.Goals.{then-info-le256, else-info-le256}
 
-pub returns-then-info-gt256 : goal.returns-then-info-gt256
-unfolding is_datanode
-returns-then-info-gt256 c = sym (and_left _ _ (lt-leb _ _ c.if-info-gt256.true))
-
-pub returns-then-not-conforms : goal.returns-then-not-conforms
-unfolding is_datanode datanode_info
-returns-then-not-conforms c = sym (and_right _ _ (and_left _ _ (sym c.conforms.ensures ∙ c.if-not-conforms.true)))
-
-pub returns : goal.returns
+pub returns-then-conforms : goal.returns-then-conforms
 unfolding is_datanode datanode_info datanode_id
-returns c =
+returns-then-conforms c =
     let bs = c.args.info.now in
-    let a = le-leb _ _ c.if-info-gt256.false in
-    let b = sym c.conforms.ensures ∙ c.if-not-conforms.false in
-    let d = c.conforms-2.ensures ∙ ap (form_of datanode_id) c.find_part.ensures in
-    d ∙ sym (λ i. a i && (b i && form_of datanode_id (part_of 1 bs)))
+    let d = c.conforms-then-conforms.ensures ∙ ap (form_of datanode_id) c.find.ensures in
+    elim c.if-info-le256.branch [
+      | then-info-le256 w ↦
+          let a = le-leb _ _ w.if-info-le256.true in
+          let b = sym w.conforms.ensures ∙ sym w.value-is ∙ c.if-conforms.true in
+          d ∙ sym (λ i. a i && (b i && form_of datanode_id (part_of 1 bs)))
+      | else-info-le256 w ↦ absurd (both_ways _ (w.value-is ∙ lt-leb _ _ w.if-info-le256.false) c.if-conforms.true)
+    ]
+
+pub returns-else-conforms : goal.returns-else-conforms
+unfolding is_datanode datanode_info
+returns-else-conforms c =
+    elim c.if-info-le256.branch [
+      | then-info-le256 w ↦ c.if-conforms.false ∙ sym (and_right _ _ (and_left _ _ (sym w.conforms.ensures ∙ sym w.value-is ∙ c.if-conforms.false)))
+      | else-info-le256 w ↦ c.if-conforms.false ∙ sym (and_left _ _ (lt-leb _ _ w.if-info-le256.false))
+    ]

@@ -3,4 +3,4 @@ use Rattle.std.proofs.lemmas.List.{take_rest}
 use Rattle.request.proofs.setup.message_of.Goals as goal
 
 pub returns : goal.returns
-returns c = ap Some (take_rest c.args.request.now c.in-Ok.from) ∙ search rules
+returns c = ap Some (take_rest c.args.request.now c.in_ok-size.from) ∙ search rules

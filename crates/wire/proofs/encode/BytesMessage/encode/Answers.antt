@@ -5,12 +5,6 @@ use Rattle.wire.proofs.encode.BytesMessage.encode.Goals as goal
 pub slice_bounds-put_prefix-end : goal.slice_bounds-put_prefix-end
 slice_bounds-put_prefix-end c = let j = part_length c.args.self.now.tag c.args.self.now.bytes.now in search rules
 
-pub slice_bounds-copy_from_slice-count : goal.slice_bounds-copy_from_slice-count
-slice_bounds-copy_from_slice-count c = let j = part_length c.args.self.now.tag c.args.self.now.bytes.now in search rules
-
-pub slice_bounds-copy_from_slice-start : goal.slice_bounds-copy_from_slice-start
-slice_bounds-copy_from_slice-start c = let j = part_length c.args.self.now.tag c.args.self.now.bytes.now in search rules
-
 pub copy_from_slice-requires : goal.copy_from_slice-requires
 copy_from_slice-requires c = let j = part_length c.args.self.now.tag c.args.self.now.bytes.now in search rules
 

@@ -9,12 +9,6 @@ encoded_len-inner-requires g c = let j = part_length c.args.self.now.tag (encode
 pub slice_bounds-put_prefix-end : goal.slice_bounds-put_prefix-end
 slice_bounds-put_prefix-end g c = let j = part_length c.args.self.now.tag (encode_all (g.M.Message.fields c.args.self.now.message)) in let n = c.encoded_len-inner.ensures in let p = ap (λ z. length (prefix c.args.self.now.tag z)) n in search rules
 
-pub slice_bounds-encode-count : goal.slice_bounds-encode-count
-slice_bounds-encode-count g c = let j = part_length c.args.self.now.tag (encode_all (g.M.Message.fields c.args.self.now.message)) in let n = c.encoded_len-inner.ensures in let p = ap (λ z. length (prefix c.args.self.now.tag z)) n in search rules
-
-pub slice_bounds-encode-start : goal.slice_bounds-encode-start
-slice_bounds-encode-start g c = let j = part_length c.args.self.now.tag (encode_all (g.M.Message.fields c.args.self.now.message)) in let n = c.encoded_len-inner.ensures in let p = ap (λ z. length (prefix c.args.self.now.tag z)) n in search rules
-
 pub encode-requires : goal.encode-requires
 encode-requires g c = let j = part_length c.args.self.now.tag (encode_all (g.M.Message.fields c.args.self.now.message)) in let n = c.encoded_len-inner.ensures in let p = ap (λ z. length (prefix c.args.self.now.tag z)) n in search rules
 

@@ -8,12 +8,6 @@ encoded_len-first-requires g c = let j = join_length (g.A.Message.fields c.args.
 pub slice_bounds-encode-end : goal.slice_bounds-encode-end
 slice_bounds-encode-end g c = let j = join_length (g.A.Message.fields c.args.self.now.0) (g.B.Message.fields c.args.self.now.1) in search rules
 
-pub slice_bounds-encode-start-2 : goal.slice_bounds-encode-start-2
-slice_bounds-encode-start-2 g c = let j = join_length (g.A.Message.fields c.args.self.now.0) (g.B.Message.fields c.args.self.now.1) in search rules
-
-pub slice_bounds-encode-count-2 : goal.slice_bounds-encode-count-2
-slice_bounds-encode-count-2 g c = let j = join_length (g.A.Message.fields c.args.self.now.0) (g.B.Message.fields c.args.self.now.1) in search rules
-
 pub encode-requires-2 : goal.encode-requires-2
 encode-requires-2 g c = let j = join_length (g.A.Message.fields c.args.self.now.0) (g.B.Message.fields c.args.self.now.1) in search rules
 
