@@ -133,3 +133,13 @@ module _ {F : Type 0} (g : Mut F (ℕ × Unit {0}) ℕ) (I : F → Type 0) (m : 
 
   pub from_fn_gives : (f : F) (ys : List ℕ) → I f → IsFromFnResult g f ys m → (k : ℕ) → k < m → get_or ys k 0 ≡ h k
   from_fn_gives f ys a c k l = from_fn_at m 0 f ys (omega arith) a c.each k (omega arith) (omega arith)
+
+-- some numbers of a list, one after another
+pub span_read : (m at : ℕ) (ns ys : List ℕ) → length ys ≡ m → ((k : ℕ) → k < m → get_or ys k 0 ≡ get_or ns (at + k) 0) → ys ≡ span at m ns
+span_read zero at ns [] e f = refl
+span_read zero at ns (y ∷ ys) e f = absurd (omega arith)
+span_read (suc m) at ns [] e f = absurd (omega arith)
+span_read (suc m) at ns (y ∷ ys) e f =
+    let z : at + 0 ≡ at = omega arith in
+    let here : y ≡ get_or ns at 0 = f 0 (omega arith) ∙ ap (λ a. get_or ns a 0) z in
+    (λ i. here i ∷ span_read m (at + 1) ns ys (omega arith) (λ k l. let w : at + suc k ≡ at + 1 + k = omega arith in f (suc k) (omega arith) ∙ ap (λ a. get_or ns a 0) w) i)
