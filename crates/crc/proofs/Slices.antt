@@ -3,7 +3,7 @@
 use Rattle.std.proofs.Common.{◌≡◌, ℕ, suc, ◌+◌, ◌*◌, ◌/◌, ◌%◌, ◌^◌, ◌<◌, ◌≤◌, List, [], ◌∷◌, ◌++◌, length, get_or, take, drop, sym, refl, ap, ◌∙◌, ap₂, zero-add, arith, take-add}
 use lib.Bits.{bit_xor, bit_and, xor_assoc, xor_comm, xor_self, xor_zero_r, xor_shifted, and_mask}
 use Rattle.std.proofs.lemmas.Nat.{mod_below, shr-shr}
-use Rattle.std.proofs.lemmas.List.{take-append-drop, length-take, length-drop, length-append, drop-drop, drop_more, drop_all}
+use Rattle.std.proofs.lemmas.List.{take_all, length-take, length-drop, length-append, drop-drop, drop_more, drop_all}
 use Rattle.crc.specs.Crc.{steps, after, entry, table_of}
 use Rattle.crc.specs.Laws.{packed}
 use Rattle.crc.proofs.Rows.{byte_out, table_at}
@@ -125,23 +125,16 @@ module _ (p : ℕ) (t : List ℕ) (is : t ≡ table_of p) where
       ∙ sym (byte_out p 0 w ∙ ap (bit_xor (entry p 0 (w % 256))) (no_steps p (w / 256)))
 
 -- the four words of a block
-pub block_read : (p v i : ℕ) (xs : List ℕ) → i + 16 ≤ length xs → bit_xor (steps p 128 (bit_xor v (packed (take 4 (drop i xs))))) (bit_xor (bit_xor (steps p 96 (packed (take 4 (drop (i + 4) xs)))) (steps p 64 (packed (take 4 (drop (i + 8) xs))))) (steps p 32 (packed (take 4 (drop (i + 12) xs))))) ≡ after p v (take 16 (drop i xs))
-block_read p v i xs h =
+pub block_read : (p v : ℕ) (xs : List ℕ) → length xs ≡ 16 → bit_xor (steps p 128 (bit_xor v (packed (take 4 (drop 0 xs))))) (bit_xor (bit_xor (steps p 96 (packed (take 4 (drop 4 xs)))) (steps p 64 (packed (take 4 (drop 8 xs))))) (steps p 32 (packed (take 4 (drop 12 xs))))) ≡ after p v xs
+block_read p v xs h =
     sym
-    (ap (after p v) (quarters xs i)
-    ∙ block_in p v (take 4 (drop i xs)) (take 4 (drop (i + 4) xs)) (take 4 (drop (i + 8) xs)) (take 4 (drop (i + 12) xs)) (whole i (omega arith)) (whole (i + 4) (omega arith)) (whole (i + 8) (omega arith)) (whole (i + 12) (omega arith)))
+    (ap (after p v) (sym (take_all 16 xs (omega arith)) ∙ quarters xs 0)
+    ∙ block_in p v (take 4 (drop 0 xs)) (take 4 (drop 4 xs)) (take 4 (drop 8 xs)) (take 4 (drop 12 xs)) (whole 0 (omega arith)) (whole 4 (omega arith)) (whole 8 (omega arith)) (whole 12 (omega arith)))
   where
     whole : (j : ℕ) → j + 4 ≤ length xs → length (take 4 (drop j xs)) ≡ 4
     whole j le = simp (length-take, length-drop) (omega arith)
 
--- a block, or a byte, and then the rest
-pub block_more : (p v i : ℕ) (xs : List ℕ) → after p (after p v (take 16 (drop i xs))) (drop (i + 16) xs) ≡ after p v (drop i xs)
-block_more p v i xs =
-    sym
-    (ap (after p v) (sym (take-append-drop 16 (drop i xs)))
-    ∙ after_append p v (take 16 (drop i xs)) (drop 16 (drop i xs))
-    ∙ ap (after p (after p v (take 16 (drop i xs)))) (drop-drop 16 i xs))
-
+-- a byte, and then the rest
 pub byte_more : (p v i : ℕ) (xs : List ℕ) → i < length xs → after p (steps p 8 (bit_xor v (get_or xs i 0))) (drop (i + 1) xs) ≡ after p v (drop i xs)
 unfolding after
 byte_more p v i xs h = sym (ap (after p v) (drop_more xs i 0 h))

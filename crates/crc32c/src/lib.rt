@@ -43,11 +43,9 @@ pub fn append(sum: u32, bytes: &[u8]) -> u32
 }
 
 /// The definition, computed bit by bit, gives the sums that RFC 3720 has as examples.
-pub fn vectors_stand() -> u8
+pub fn vectors_stand()
     ensures { Vectors }
-{
-    0
-}
+{}
 
 #[cfg(test)]
 mod tests {

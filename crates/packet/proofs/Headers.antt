@@ -1,5 +1,6 @@
 -- The octets of a header. Assumes nothing.
 use Rattle.std.proofs.Common.{◌≡◌, ℕ, Bool, true, false, cond, [], ◌∷◌, ◌++◌, length, refl, ap}
+use Rattle.std.specs.Int.{from_bool}
 use Rattle.std.proofs.lemmas.Bool.{true≢false, false≢true}
 use Rattle.wire.specs.Fields.{varint_bytes, encode, encode_all}
 use Rattle.wire.specs.Octets.{little}
@@ -14,6 +15,11 @@ pub plain_is : (o s : ℕ) (l : Bool) (n : ℕ) → plain_octets o s l n ≡ (9 
 unfolding plain_octets varint_bytes encode encode_all
 plain_is o s true n = refl
 plain_is o s false n = refl
+
+-- the octet that a `bool` is
+pub one_bit : (b : Bool) → from_bool b ≡ cond b 1 0
+one_bit true = refl
+one_bit false = refl
 
 pub plain_long : (o s : ℕ) (l : Bool) (n : ℕ) → length (plain_octets o s l n) ≡ 25
 plain_long o s l n = ap length (plain_is o s l n)

@@ -1,7 +1,7 @@
 -- What a frame's places hold, so that one packet at most has it. Assumes nothing.
 use Rattle.std.proofs.Common.{◌≡◌, ℕ, zero, suc, ◌+◌, ◌-◌, ◌*◌, ◌/◌, ◌^◌, ◌<◌, ◌≤◌, Bool, true, false, eqb, List, ◌++◌, length, get_or, take, drop, Some, None, sym, refl, ap, ◌∙◌, subst, pow-suc, arith}
 use Rattle.std.proofs.lemmas.Nat.{div_below, div-add-mod'}
-use Rattle.std.proofs.lemmas.List.{append_assoc, length-append, length-drop, length-take-le, take_at, drop_at, take-append-drop, take_rest, drop-drop}
+use Rattle.std.proofs.lemmas.List.{append_assoc, length-append, take_at, drop_at}
 use Rattle.wire.specs.Fields.{varint_bytes, encode, encode_all}
 use Rattle.wire.specs.Octets.{little, from_little}
 use Rattle.packet.specs.declared.header.PacketHeader.{PacketHeader}
@@ -140,21 +140,14 @@ module _ (octets : List ℕ) (h : PacketHeader) (eh : h ≡ header_at octets) (n
 
 -- ---- what is taken is the frame
 
--- n is where the sums begin, and m where the data begins
-pub taken : (octets : List ℕ) (h : PacketHeader) (n m : ℕ) → h.offset < 2 ^ 64 → h.seqno < 2 ^ 64 → n ≤ m → m + h.data_len ≡ length octets → 4 + (length octets - n) < 2 ^ 31 → take n octets ≡ front_of (4 + (length octets - n)) h
-    → Reads octets (Some (record { offset = h.offset; seqno = h.seqno; last = h.last; sums = take (m - n) (drop n octets); bytes = take (length octets - m) (drop m octets) }))
-taken octets h n m ho hs nm ml below front =
-    let p : Packet = record { offset = h.offset; seqno = h.seqno; last = h.last; sums = take (m - n) (drop n octets); bytes = take (length octets - m) (drop m octets) } in
-    let ls : length p.sums ≡ m - n = length-take-le (m - n) (drop n octets) (omega (arith, length-drop n octets)) in
-    let lb : length p.bytes ≡ h.data_len = ap length (take_rest octets m) ∙ length-drop m octets ∙ omega arith in
-    let whole : whole_in p ≡ 4 + (length octets - n) = omega (arith, ls, lb) in
-    let at : n + (m - n) ≡ m = omega arith in
-    let both : p.sums ++ p.bytes ≡ drop n octets =
-    ap (λ z. p.sums ++ z) (take_rest octets m ∙ ap (λ k. drop k octets) (sym at) ∙ sym (drop-drop (m - n) n octets))
-    ∙ take-append-drop (m - n) (drop n octets) in (
+pub taken : (octets front rest sums bytes : List ℕ) (h : PacketHeader) → h.offset < 2 ^ 64 → h.seqno < 2 ^ 64 → front ++ rest ≡ octets → sums ++ bytes ≡ rest → length bytes ≡ h.data_len → 4 + length rest < 2 ^ 31 → front ≡ front_of (4 + length rest) h
+    → Reads octets (Some (record { offset = h.offset; seqno = h.seqno; last = h.last; sums = sums; bytes = bytes }))
+taken octets front rest sums bytes h ho hs all both lb below is =
+    let p : Packet = record { offset = h.offset; seqno = h.seqno; last = h.last; sums = sums; bytes = bytes } in
+    let whole : whole_in p ≡ 4 + length rest = omega (arith, ap length both, length-append sums bytes) in (
       record { offset = ho; seqno = hs; whole = omega (arith, whole, below) },
       frame_is p
           ∙ (λ i. front_of (whole i) (record { offset = h.offset; seqno = h.seqno; last = h.last; data_len = lb i }) ++ both i)
-          ∙ ap (λ z. z ++ drop n octets) (sym front)
-          ∙ take-append-drop n octets,
+          ∙ ap (λ z. z ++ rest) (sym is)
+          ∙ all,
     )

@@ -20,7 +20,7 @@ Reads octets None = (p : Packet) → Carried p → octets_of p ≢ octets
 
 -- a frame of the program as a packet
 abbrev pub packet_in : Option Frame → Option Packet
-packet_in (Some f) = Some (record { offset = f.offset; seqno = f.seqno; last = f.last; sums = f.sums.now; bytes = f.«data».now })
+packet_in (Some f) = Some (record { offset = f.packet.offset; seqno = f.packet.seqno; last = f.packet.last; sums = f.sums.now; bytes = f.packet.«data».now })
 packet_in None = None
 
 -- no two packets have one frame

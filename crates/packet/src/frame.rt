@@ -14,8 +14,8 @@ pub(crate) const LENGTHS: usize = 6;
 /// The lengths of a frame are below this.
 pub(crate) const LENGTH_LIMIT: usize = 0x8000_0000;
 
-/// A packet to be written: its place in the block, its number, whether it is the last, and its data.
-#[derive(Clone, Copy)]
+/// A packet as it is written and read: its place in the block, its number, whether it is the last, and its data.
+#[derive(Clone, Copy, Debug, PartialEq, Eq)]
 pub struct WritePacket<'a> {
     pub offset: u64,
     pub seqno: u64,
@@ -36,16 +36,8 @@ pub(crate) fn put_lengths(out: &mut [u8], whole: u32, head: u16)
 fn carried_sums(data_len: usize, chunk_size: u32) -> Option<usize>
     ensures { result ≡ (if nat_lt (4 + (4 * chunk_count chunk_size data_len + data_len)) (2 ^ 31) then Some (4 * chunk_count chunk_size data_len) else None) }
 {
-    let Some(sums) = sums_len(data_len, chunk_size) else {
-        return None;
-    };
-    if data_len >= LENGTH_LIMIT - 4 {
-        return None;
-    }
-    if sums >= LENGTH_LIMIT - 4 - data_len {
-        return None;
-    }
-    Some(sums)
+    let room = (LENGTH_LIMIT - 4).checked_sub(data_len)?;
+    sums_len(data_len, chunk_size).filter(|sums| *sums < room)
 }
 
 // Fills `out` with the frame: lengths, header, sums and data in turn. The sums take `sums` octets.
@@ -78,9 +70,7 @@ pub fn write_frame(buf: &mut [u8], packet: WritePacket<'_>, chunk_size: u32) -> 
     ensures value { result ≡ end_in (summed chunk_size packet.entry) buf.old }
     ensures after { buf.new ≡ over (summed chunk_size packet.entry) buf.old }
 {
-    let Some(sums) = carried_sums(packet.data.len(), chunk_size) else {
-        return None;
-    };
+    let sums = carried_sums(packet.data.len(), chunk_size)?;
     let end = LENGTHS + header_len(packet.last) + sums + packet.data.len();
     if end > buf.len() {
         return None;
@@ -90,8 +80,6 @@ pub fn write_frame(buf: &mut [u8], packet: WritePacket<'_>, chunk_size: u32) -> 
 }
 
 /// By accepted sizes every packet within its capacity, the first packet too, is framed in a buffer of the frame capacity.
-pub fn room_stands() -> u8
+pub fn room_stands()
     ensures { FramesFit × FirstWithin }
-{
-    0
-}
+{}

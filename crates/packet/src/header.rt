@@ -48,7 +48,7 @@ fn put_plain_fields(out: &mut [u8], header: PacketHeader)
     out[9] = 0x11;
     out[10..18].copy_from_slice(&header.seqno.to_le_bytes());
     out[18] = 0x18;
-    out[19] = if header.last { 1 } else { 0 };
+    out[19] = u8::from(header.last);
     out[20] = 0x25;
     out[21..25].copy_from_slice(&header.data_len.to_le_bytes());
 }

@@ -50,10 +50,10 @@ fn round_trip(rt: HostRuntime) -> Result<(), Fail> {
     assert!(rt; &buf[33..37] == b"\xe3\x06\x92\x83".as_slice());
     assert!(rt; read_frame(&buf).is_none());
     let frame = read_frame(&buf[0..53]).ok_or("no frame")?;
-    assert_eq!(rt; frame.offset, 9);
-    assert!(rt; frame.last && frame.data == packet.data);
-    assert!(rt; sums_match(frame.sums, frame.data, 9));
-    assert!(rt; !sums_match(frame.sums, frame.data, 8));
+    assert_eq!(rt; frame.packet.offset, 9);
+    assert!(rt; frame.packet == packet);
+    assert!(rt; sums_match(frame.sums, frame.packet.data, 9));
+    assert!(rt; !sums_match(frame.sums, frame.packet.data, 8));
     assert_eq!(rt; write_frame(&mut buf[0..52], packet, 9), None);
     Ok(())
 }

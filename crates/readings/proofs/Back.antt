@@ -1,5 +1,5 @@
 -- A reading is read back from its octets. Assumes nothing.
-use Rattle.std.proofs.Common.{◌≡◌, ℕ, suc, ◌^◌, ◌<◌, List, [], ◌∷◌, ◌++◌, length, get_or, Some, sym, refl, ap, ◌∙◌, arith}
+use Rattle.std.proofs.Common.{◌≡◌, ℕ, ◌^◌, ◌<◌, List, [], ◌++◌, length, Some, sym, refl, ap, ◌∙◌, arith}
 use Rattle.std.specs.Int.Digits.{number_from_digits}
 use Rattle.std.proofs.lemmas.List.{append_assoc, append-nil, length-append, take_at}
 use Rattle.std.proofs.lemmas.Bool.{cond-true, eq-eqb}
@@ -9,10 +9,6 @@ use Rattle.wire.proofs.Front.{start, put, done}
 use Rattle.readings.specs.declared.reading.Reading.{Reading}
 use Rattle.readings.specs.Record.{bigs, big_at, bigs_at, octets_of, reading_of}
 use Rattle.readings.proofs.Big.{Below, bigs_back, length_big, length_bigs, number_big}
-
-pub below_each : (b : ℕ) (xs : List ℕ) → ((k : ℕ) → get_or xs k 0 < b) → Below b xs
-below_each b [] f = tt
-below_each b (x ∷ xs) f = (f 0, below_each b xs (λ k. f (suc k)))
 
 -- what the types of its fields say of a reading
 pub record Fitting (r : Reading) : Type 0 where

@@ -1,6 +1,6 @@
 //! The parts of a line: numbers, each with the mark behind it.
-ghost use Rattle.std.specs.Prelude.{◌≡◌, ◌+◌, ◌≤◌, true, length, IfOk};
-ghost use Rattle.readings.specs.Line.{number_at, stands, width, mark_at, slot_at};
+ghost use Rattle.std.specs.Prelude.{◌≡◌, ◌+◌, ◌^◌, ◌<◌, ◌≤◌, length, IfOk};
+ghost use Rattle.readings.specs.Line.{number_at, mark_at, slot_at};
 
 use std::fmt;
 
@@ -29,6 +29,19 @@ pub enum LineFault {
 pub struct LineError {
     pub column: usize,
     pub fault: LineFault,
+}
+
+impl LineError {
+    // The fault at a place, which is a column from 1.
+    fn at(place: usize, fault: LineFault) -> LineError
+        requires { place + 1 < 2 ^ 64 }
+        ensures { result ≡ record { column = place + 1; fault = fault } }
+    {
+        LineError {
+            column: place + 1,
+            fault,
+        }
+    }
 }
 
 /// A number of a line: its limit, and what stands behind it.
@@ -77,34 +90,15 @@ pub(crate) fn number(line: &[u8], at: usize, limit: u64) -> Result<(u64, usize),
     while next < line.len() && line[next].is_ascii_digit() {
         let digit = u64::from(line[next] - b'0');
         if value > limit / 10 || digit > limit - 10 * value {
-            return Err(LineError {
-                column: at + 1,
-                fault: LineFault::AboveLimit(limit),
-            });
+            return Err(LineError::at(at, LineFault::AboveLimit(limit)));
         }
         value = 10 * value + digit;
         next += 1;
     }
     if next == at {
-        return Err(LineError {
-            column: at + 1,
-            fault: LineFault::DigitExpected,
-        });
+        return Err(LineError::at(at, LineFault::DigitExpected));
     }
     Ok((value, next))
-}
-
-// Whether the mark stands at `at`.
-fn stands_at(line: &[u8], at: usize, mark: Mark) -> bool
-    requires { at ≤ length line.now }
-    ensures value { result ≡ stands mark at line.now }
-    ensures within { result ≡ true → at + width mark ≤ length line.now }
-{
-    match mark {
-        Mark::Comma => at < line.len() && line[at] == b',',
-        Mark::Semicolon => at < line.len() && line[at] == b';',
-        Mark::End => at == line.len(),
-    }
 }
 
 /// The place past the mark at `at`.
@@ -113,16 +107,10 @@ pub(crate) fn past_mark(line: &[u8], at: usize, mark: Mark) -> Result<usize, Lin
     ensures value { result ≡ mark_at mark at line.now }
     ensures within { IfOk result (λ x. x ≤ length line.now) }
 {
-    if !stands_at(line, at, mark) {
-        return Err(LineError {
-            column: at + 1,
-            fault: LineFault::MarkExpected(mark),
-        });
-    }
-    match mark {
-        Mark::Comma => Ok(at + 1),
-        Mark::Semicolon => Ok(at + 1),
-        Mark::End => Ok(at),
+    match (mark, line.get(at)) {
+        (Mark::Comma, Some(b',')) | (Mark::Semicolon, Some(b';')) => Ok(at + 1),
+        (Mark::End, None) => Ok(at),
+        _ => Err(LineError::at(at, LineFault::MarkExpected(mark))),
     }
 }
 

@@ -1,7 +1,8 @@
 -- The data of the packets, joined. Assumes nothing.
-use Rattle.std.proofs.Common.{◌≡◌, ℕ, zero, suc, ◌+◌, ◌-◌, ◌*◌, ◌/◌, ◌%◌, ◌<◌, ◌≤◌, Bool, true, false, cond, eqb, List, [], ◌++◌, length, take, drop, sym, refl, ap, ◌∙◌, subst, mul-le-mul_right, mod-lt, suc-mul, add-mul, one-mul, div-add-mod', zero-mul, div-mul-le_self, arith}
-use Rattle.std.proofs.lemmas.List.{take-append-drop, take-take, drop-take, take_all, drop_all, length-drop}
-use Rattle.std.proofs.lemmas.Bool.{cond-false, eq-eqb, ne_eqb, eqb-true}
+use Rattle.std.proofs.Common.{◌≡◌, ℕ, zero, suc, ◌+◌, ◌*◌, ◌/◌, ◌%◌, ◌<◌, ◌≤◌, min, Bool, true, false, cond, eqb, List, ◌++◌, length, take, drop, sym, refl, ap, ◌∙◌, subst, mod-lt, suc-mul, add-mul, one-mul, div-add-mod', zero-mul, arith}
+use Rattle.std.specs.Int.{div_ceil}
+use Rattle.std.proofs.lemmas.List.{take-append-drop, take-take, drop-take, take_all}
+use Rattle.std.proofs.lemmas.Bool.{cond-false, ne_eqb, eqb-true}
 use Rattle.recording.specs.Cut.{packet_count, packets_joined}
 
 take_both : (m c : ℕ) (bs : List ℕ) → take m bs ++ take c (drop m bs) ≡ take (m + c) bs
@@ -31,26 +32,10 @@ whole c bs r e h =
     ∙ joined_is c (packet_count c (length bs)) bs
     ∙ take_all (packet_count c (length bs) * c) bs (covers c (length bs) h)
 
--- how many packets: with no rest, and with one
-pub count_even : (c n : ℕ) → (c ≡ 0 → ⊥) → n % c ≡ 0 → n / c ≡ packet_count c n
-count_even c n z e =
-    let k : n / c ≡ n / c + 0 = omega arith in
-    k ∙ sym (cond-false _ _ _ (ne_eqb c 0 z) ∙ ap (λ b. n / c + cond b 0 1) (eq-eqb (n % c) 0 e))
-
-pub count_odd : (c n : ℕ) → (c ≡ 0 → ⊥) → (n % c ≡ 0 → ⊥) → n / c + 1 ≡ packet_count c n
-count_odd c n z e = sym (cond-false _ _ _ (ne_eqb c 0 z) ∙ ap (λ b. n / c + cond b 0 1) (ne_eqb (n % c) 0 e))
-
--- where packet k begins
-pub starts : (c n k : ℕ) → k ≤ n / c → k * c ≤ n
-starts c n k h = omega (arith, mul-le-mul_right {m = k} {n = n / c} c h, div-mul-le_self n c)
-
-pub past : (c n k : ℕ) → (c ≡ 0 → ⊥) → n / c < k → n ≤ k * c
-past c n k z h =
-    omega (arith, mul-le-mul_right {m = n / c + 1} {n = k} c (omega arith), add-mul (n / c) 1 c, one-mul c, div-add-mod' n c, mod-lt n {m = c} (omega arith))
-
-pub none_past : (c k : ℕ) (bs : List ℕ) → (c ≡ 0 → ⊥) → length bs / c < k → [] ≡ take c (drop (k * c) bs)
-none_past c k bs z h = sym (ap (take c) (drop_all (k * c) bs (past c (length bs) k z h)) ∙ take_all c [] (omega arith))
-
-pub short : (c s n : ℕ) (bs : List ℕ) → n ≡ length bs → n - s < c → take (n - s) (drop s bs) ≡ take c (drop s bs)
-short c s n bs e h =
-    take_all (n - s) (drop s bs) (simp length-drop (omega arith)) ∙ sym (take_all c (drop s bs) (simp length-drop (omega arith)))
+-- as `div_ceil` gives it
+pub count_is : (c n : ℕ) → (c ≡ 0 → ⊥) → div_ceil n c ≡ packet_count c n
+count_is c n z = ap (λ r. n / c + r) (go (n % c)) ∙ sym (cond-false _ _ _ (ne_eqb c 0 z))
+  where
+    go : (r : ℕ) → min 1 r ≡ cond (eqb r 0) 0 1
+    go zero = refl
+    go (suc r) = omega arith ∙ sym (cond-false _ _ _ (ne_eqb (suc r) 0 (λ e. omega arith)))

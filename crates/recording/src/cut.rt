@@ -11,27 +11,13 @@ pub fn packet_count(block: &[u8], capacity: usize) -> usize
     if capacity == 0 {
         return 0;
     }
-    let full = block.len() / capacity;
-    if block.len() % capacity == 0 {
-        return full;
-    }
-    full + 1
+    block.len().div_ceil(capacity)
 }
 
 /// The data of packet `k`: the `capacity` bytes from `k * capacity` on, or what there is of them.
 pub fn packet_data(block: &[u8], capacity: usize, k: usize) -> &[u8]
     ensures { result.now ≡ packet_at capacity block.now k }
 {
-    if capacity == 0 {
-        return &block[0..0];
-    }
-    if k > block.len() / capacity {
-        return &block[0..0];
-    }
-    let start = k * capacity;
-    let left = block.len() - start;
-    if left < capacity {
-        return &block[start..block.len()];
-    }
-    &block[start..start + capacity]
+    let rest = block.get(k.saturating_mul(capacity)..).unwrap_or_default();
+    &rest[..capacity.min(rest.len())]
 }

@@ -1,72 +1,67 @@
-use Rattle.std.proofs.Common.{◌≡◌, ◌+◌, ◌-◌, ◌*◌, length, take, drop, sym, ap, ◌∙◌, arith}
-use Rattle.std.specs.Str.{bytes_eq}
+use Rattle.std.proofs.Common.{◌≡◌, inl, inr, length, sym, ap, ◌∙◌, arith, ⊎_elim}
 use Rattle.std.proofs.lemmas.Slice.Eq.{bytes_eq-Decides}
-use Rattle.std.proofs.lemmas.List.{take_all}
-use Rattle.crc.specs.Crc.{sum_of}
+use Rattle.std.proofs.lemmas.List.{nil_from_length}
+use Rattle.std.specs.Iterator.Adapters.{zip_first, zip_second}
+use Rattle.std.specs.Slice.Iter.{chunks_rest, chunks_size, chunks_exact_rest, chunks_exact_size}
 use Rattle.wire.specs.Octets.{big}
 use Rattle.wire.proofs.Front.{big_4}
-use Rattle.packet.specs.Sums.{chunk_at, sum_octets, sums_of}
-use Rattle.packet.proofs.Chunks.{first_sums, all_sums, sums_of_long, none_to_sum_in, right_more, sum_at}
-use Rattle.packet.proofs.Same.{same, other, same_none, differ, agree}
+use Rattle.packet.specs.Sums.{sum_octets, sums_of}
+use Rattle.packet.proofs.Chunks.{count_none, no_sums, sums_of_long, other_length, same_length, left_all, left_more, left_other, left_none}
+use Rattle.packet.proofs.Same.{same, other, differ, agree}
 use Rattle.packet.proofs.sums.sums_match.Goals as goal
-use Rattle.packet.proofs.sums.sums_match.Goals.{After-ne}
-
-pub returns-then-is_empty : goal.returns-then-is_empty
-returns-then-is_empty c =
-    c.is_empty-then-is_empty.ensures
-    ∙ same_none c.args.sums.now
-    ∙ ap (bytes_eq c.args.sums.now) (sym (none_to_sum_in c.args.chunk_size c.args.data.now _ c.is_empty.ensures c.then-is_empty.either))
-
-pub returns-then-sums-ne0 : goal.returns-then-sums-ne0
-returns-then-sums-ne0 c =
-    other c.args.sums.now (sums_of c.args.chunk_size c.args.data.now)
-    (λ e. let long = ap length e ∙ sums_of_long c.args.chunk_size c.args.data.now in c.if-sums-ne0.true (omega arith))
-
-pub returns-then-sums-count : goal.returns-then-sums-count
-returns-then-sums-count c =
-    other c.args.sums.now (sums_of c.args.chunk_size c.args.data.now)
-    (λ e.
-    let long = ap length e ∙ sums_of_long c.args.chunk_size c.args.data.now in
-    c.if-sums-count.true (omega (arith, c.chunk_count-count.ensures)))
-
--- the octets that the sum is compared as
-computed : (c : After-ne) → take 4 c.to_be_bytes-sum.result ≡ sum_octets (chunk_at c.args.chunk_size c.args.data.now c.loop-k.k)
-unfolding sum_octets
-computed c =
-    ap (take 4) c.to_be_bytes-sum.ensures
-    ∙ big_4 c.checksum.result
-    ∙ ap (big 4) (c.checksum.ensures ∙ ap (sum_of 0x82F63B78) c.chunk.ensures)
-
--- the octets that it is compared with
-compared : (c : After-ne) → take (4 * c.loop-k.k + 4 - 4 * c.loop-k.k) (drop (4 * c.loop-k.k) c.args.sums.now) ≡ take 4 (drop (4 * c.loop-k.k) c.args.sums.now)
-compared c =
-    let four : 4 * c.loop-k.k + 4 - 4 * c.loop-k.k ≡ 4 = omega arith in
-    ap (λ n. take n (drop (4 * c.loop-k.k) c.args.sums.now)) four
-
-pub loop-k-preserved : goal.loop-k-preserved
-loop-k-preserved c =
-    let a = (goal.at.loop-k-preserved c).After-ne in
-    let d = bytes_eq-Decides (take (4 * c.loop-k.k + 4 - 4 * c.loop-k.k) (drop (4 * c.loop-k.k) c.args.sums.now)) (take 4 c.to_be_bytes-sum.result) in
-    right_more c.args.chunk_size c.loop-k.k c.args.data.now c.args.sums.now c.loop-k.invariant
-    (sym (compared a) ∙ agree _ _ _ c.ne.result d c.ne.ensures c.if-ne.false ∙ computed a)
+use Rattle.packet.proofs.sums.sums_match.Goals.{After-ne, After-ne-in-loop-chunk}
 
 pub returns-then-ne : goal.returns-then-ne
 returns-then-ne c =
-    let a = (goal.at.returns-then-ne c).After-ne in
-    let d = bytes_eq-Decides (take (4 * c.loop-k.k + 4 - 4 * c.loop-k.k) (drop (4 * c.loop-k.k) c.args.sums.now)) (take 4 c.to_be_bytes-sum.result) in
     other c.args.sums.now (sums_of c.args.chunk_size c.args.data.now)
-    (λ e.
-    differ _ _ _ c.ne.result d c.ne.ensures c.if-ne.true
-    (compared a
-    ∙ ap (λ s. take 4 (drop (4 * c.loop-k.k) s)) e
-    ∙ sum_at c.args.chunk_size c.loop-k.k c.args.data.now (omega (arith, c.chunk_count-count.ensures))
-    ∙ sym (computed a)))
+    (λ e. other_length _ _ _ _ c.sums_len.ensures c.ne.ensures c.if-ne.true (omega arith) (ap length e ∙ sums_of_long c.args.chunk_size c.args.data.now))
+
+pub returns-then-chunk_size-eq0 : goal.returns-then-chunk_size-eq0
+returns-then-chunk_size-eq0 c =
+    let none = count_none c.args.chunk_size (length c.args.data.now) c.if-chunk_size-eq0.true in
+    let long = same_length _ _ _ _ c.sums_len.ensures c.ne.ensures c.if-ne.false in
+    same c.args.sums.now (sums_of c.args.chunk_size c.args.data.now) (nil_from_length c.args.sums.now (omega arith) ∙ sym (no_sums c.args.chunk_size c.args.data.now none))
+
+pub loop-chunk-init : goal.loop-chunk-init
+loop-chunk-init c =
+    let long = same_length _ _ _ _ c.sums_len.ensures c.ne.ensures c.if-ne.false in
+    let it = c.into_iter-chunk-iterator.ensures.into_iter_gives in
+    let rest = ap (λ z. chunks_rest (zip_first z)) it ∙ ap chunks_rest c.zip-chunk-items.ensures.first ∙ c.chunks.ensures.rest in
+    let rest_sums = ap (λ z. chunks_exact_rest (zip_second z)) it ∙ ap chunks_exact_rest c.zip-chunk-items.ensures.second ∙ c.chunks_exact.ensures.rest in
+    record {
+      size = ap (λ z. chunks_size (zip_first z)) it ∙ ap chunks_size c.zip-chunk-items.ensures.first ∙ c.chunks.ensures.size;
+      width = ap (λ z. chunks_exact_size (zip_second z)) it ∙ ap chunks_exact_size c.zip-chunk-items.ensures.second ∙ c.chunks_exact.ensures.size;
+      left = left_all c.args.chunk_size c.args.sums.now c.args.data.now _ _ rest_sums rest long;
+    }
+
+-- the octets that a sum is compared with
+computed : (c : After-ne-in-loop-chunk) → c.as_slice.result.now ≡ sum_octets c.in-Some.chunk.now
+unfolding sum_octets
+computed c = c.as_slice.ensures ∙ c.to_be_bytes.ensures ∙ big_4 c.checksum.result ∙ ap (big 4) c.checksum.ensures
+
+pub returns-then-ne-2 : goal.returns-then-ne-2
+returns-then-ne-2 c =
+    let a = (goal.at.returns-then-ne-2 c).After-ne-in-loop-chunk in
+    let i = c.loop-chunk.invariant in
+    let s = c.in-Some.ensures.steps in
+    let d = differ _ _ _ c.ne-in-loop-chunk.result (bytes_eq-Decides c.in-Some.sum.now c.as_slice.result.now) c.ne-in-loop-chunk.ensures c.if-ne-2.true in
+    other c.args.sums.now (sums_of c.args.chunk_size c.args.data.now)
+    (left_other i.left c.in-Some.sum.now c.in-Some.chunk.now _ _ (omega arith) s.1.1.0 (s.1.1.1 ∙ i.width) s.0.1.0 (omega (arith, i.size, s.0.1.1)) s.0.1.2 (λ e. d (e ∙ sym (computed a))))
+
+pub loop-chunk-preserved : goal.loop-chunk-preserved
+loop-chunk-preserved c =
+    let a = (goal.at.loop-chunk-preserved c).After-ne-in-loop-chunk in
+    let i = c.loop-chunk.invariant in
+    let s = c.in-Some.ensures.steps in
+    let e = agree _ _ _ c.ne-in-loop-chunk.result (bytes_eq-Decides c.in-Some.sum.now c.as_slice.result.now) c.ne-in-loop-chunk.ensures c.if-ne-2.false in
+    record {
+      size = s.0.0 ∙ i.size;
+      width = s.1.0 ∙ i.width;
+      left = left_more i.left c.in-Some.sum.now c.in-Some.chunk.now _ _ (omega arith) s.1.1.0 (s.1.1.1 ∙ i.width) s.0.1.0 (omega (arith, i.size, s.0.1.1)) s.0.1.2 (e ∙ computed a);
+    }
 
 pub returns : goal.returns
 returns c =
-    let k : c.loop-k.k ≡ c.chunk_count-count.result = omega arith in
+    let i = c.loop-chunk.invariant in
     same c.args.sums.now (sums_of c.args.chunk_size c.args.data.now)
-    (sym (take_all (4 * c.loop-k.k) c.args.sums.now (omega arith))
-    ∙ c.loop-k.invariant
-    ∙ ap (first_sums c.args.chunk_size c.args.data.now) (k ∙ c.chunk_count-count.ensures)
-    ∙ sym (all_sums c.args.chunk_size c.args.data.now))
+    (left_none i.left (⊎_elim (λ e. inl e.1.1.0) (λ e. inr (omega (arith, i.width, e.1.1.0))) c.in-None.ensures.steps))

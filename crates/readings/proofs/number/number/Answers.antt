@@ -1,4 +1,4 @@
-use Rattle.std.proofs.Common.{◌≡◌, ◌+◌, ◌*◌, ◌<◌, [], drop, sym, arith}
+use Rattle.std.proofs.Common.{◌≡◌, ◌+◌, ◌*◌, ◌<◌, [], drop, Err, sym, ap, ◌∙◌, arith}
 use Rattle.readings.specs.Line.{digits, number_at}
 use Rattle.readings.proofs.Scan.{digits_none, digits_end, goes, above, none, ends}
 use Rattle.readings.proofs.number.number.Goals as goal
@@ -13,7 +13,7 @@ returns-then-value-limit c =
       | then-value-limit-via-else-value-limit+then-digit-limit w ↦ omega (arith, w.if-value-limit.false, w.if-digit-limit.true)
     ] in
     record {
-      value = above c.loop-next.invariant c.loop-next-test.true (sym c.if-is_ascii_digit.ensures.value) c.from-digit.result c.from-digit.ensures over;
+      value = ap Err c.at.ensures ∙ above c.loop-next.invariant c.loop-next-test.true (sym c.if-is_ascii_digit.ensures.value) c.from-digit.result c.from-digit.ensures over;
       within = tt;
     }
 
@@ -28,7 +28,7 @@ returns-then-next-at c =
       | then-loop-next-test+else-is_ascii_digit w ↦ digits_none _ _ w.loop-next-test.true (sym w.if-is_ascii_digit.ensures.value)
       | else-loop-next-test w ↦ digits_end _ _ w.loop-next-test.false
     ] in
-    record { value = none c.loop-next.invariant e c.if-next-at.true; within = tt }
+    record { value = ap Err c.at-then-next-at.ensures ∙ none c.loop-next.invariant e c.if-next-at.true; within = tt }
 
 pub returns : goal.returns
 unfolding number_at

@@ -1,24 +1,28 @@
-use Rattle.std.proofs.Common.{ap, ◌∙◌, arith}
+use Rattle.std.proofs.Common.{◌≡◌, ◌^◌, length, ap, ◌∙◌, arith}
 use Rattle.readings.specs.Record.{reading_of}
-use Rattle.readings.proofs.Back.{Fitting, below_each, back, parts}
+use Rattle.readings.proofs.Back.{Fitting, back, parts}
+use Rattle.readings.proofs.Big.{big_8, bigs_mapped, below_mapped}
 use Rattle.readings.proofs.reading.Reading.write_to.Goals as goal
-use Rattle.readings.proofs.reading.Reading.write_to.Goals.{After-put_u16s-2}
-
-fitting : (c : After-put_u16s-2) → Fitting c.args.self.now
-fitting c = record {
-  four = omega arith;
-  six = omega arith;
-  eight = omega arith;
-  time = c.put_u64.ensures.fits;
-  weights = below_each _ c.args.self.now.weights c.put_u32s.ensures.fits;
-  burners = below_each _ c.args.self.now.burners c.put_u16s.ensures.fits;
-  crowns = below_each _ c.args.self.now.crowns c.put_u16s-2.ensures.fits;
-}
 
 pub returns : goal.returns
 returns c =
-    let f = fitting c in
+    let r = c.args.self.now in
+    let four : length r.weights ≡ 4 = omega arith in
+    let six : length r.burners ≡ 6 = omega arith in
+    let eight : length r.crowns ≡ 8 = omega arith in
+    let f : Fitting r = record {
+      four = four;
+      six = six;
+      eight = eight;
+      time = omega arith;
+      weights = below_mapped _ _ 4 (2 ^ 32) 4 r.weights c.map.result four c.map.ensures.items (λ p q x y h. h.met);
+      burners = below_mapped _ _ 2 (2 ^ 16) 6 r.burners c.map-2.result six c.map-2.ensures.items (λ p q x y h. h.met);
+      crowns = below_mapped _ _ 2 (2 ^ 16) 8 r.crowns c.map-3.result eight c.map-3.ensures.items (λ p q x y h. h.met);
+    } in
     let e =
-    parts c.args.self.now c.args.out.now c.put_u64.new.out c.put_u32s.new.out c.put_u16s.new.out c.put_u16s-2.new.out
-    c.told-out f c.put_u64.ensures.written c.put_u32s.ensures.written c.put_u16s.ensures.written c.put_u16s-2.ensures.written in
-    record { written = e; back = ap reading_of e ∙ back c.args.self.now f }
+    parts r c.args.out.now _ _ _ _ c.told-out f
+    (c.copy_from_slice.ensures.after ∙ c.to_be_bytes.ensures ∙ big_8 r.time)
+    (c.copy_from_slice-2.ensures.after ∙ c.as_flattened.ensures.value ∙ bigs_mapped _ _ 4 (2 ^ 32) 4 r.weights c.map.result four c.map.ensures.items (λ p q x y h. h.met))
+    (c.copy_from_slice-3.ensures.after ∙ c.as_flattened-2.ensures.value ∙ bigs_mapped _ _ 2 (2 ^ 16) 6 r.burners c.map-2.result six c.map-2.ensures.items (λ p q x y h. h.met))
+    (c.copy_from_slice-4.ensures.after ∙ c.as_flattened-3.ensures.value ∙ bigs_mapped _ _ 2 (2 ^ 16) 8 r.crowns c.map-3.result eight c.map-3.ensures.items (λ p q x y h. h.met)) in
+    record { written = e; back = ap reading_of e ∙ back r f }

@@ -2,7 +2,7 @@ use Rattle.std.proofs.Common.{ℕ, ap, ◌∙◌}
 use lib.Bits.{bit_xor}
 use Rattle.crc.specs.Crc.{steps}
 use Rattle.crc.proofs.Slices.{one_read}
-use Rattle.crc.proofs.one.Goals as goal
+use Rattle.crc.proofs.after_byte.Goals as goal
 
 pub returns : goal.returns
 returns g c =
