@@ -26,7 +26,7 @@ pub fn request(others: usize, out: &mut [u8]) -> Result<usize, Fail> {
         .get(0..others)
         .ok_or("a pipeline has at most eight nodes")?;
     let token = Token::new(TOKEN).ok_or("the token is not in form")?;
-    let name = Fixed::copy_of(b"name").ok_or("the text is too long")?;
+    let name = Fixed::try_from(b"name".as_slice()).map_err(|_| Fail::new("the text is too long"))?;
     let block = ExtendedBlock {
         pool_id: name,
         block_id: 1,

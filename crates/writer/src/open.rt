@@ -90,8 +90,8 @@ impl Tables {
         }
         Some(Forms {
             token,
-            pool_id: Fixed::copy_of(opening.pool_id)?,
-            client_name: Fixed::copy_of(opening.client_name)?,
+            pool_id: Fixed::try_from(opening.pool_id).ok()?,
+            client_name: Fixed::try_from(opening.client_name).ok()?,
         })
     }
 
