@@ -47,9 +47,7 @@ pub(crate) fn copies_of(
 ) -> Result<Vec<Vec<u8>>, AllocError>
     ensures { IfOk result (λ v. copies v.items ≡ replicate count bytes.now) }
 {
-    let mut all = Vec::new(heap);
-    'copies: for _ in 0..count {
-        all.push(copy_of(heap, bytes, room)?)?;
-    }
-    Ok(all)
+    (0..count)
+        .map(|_| copy_of(heap, bytes, room))
+        .try_collect(heap)
 }
