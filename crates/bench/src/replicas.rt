@@ -47,7 +47,10 @@ pub(crate) fn copies_of(
 ) -> Result<Vec<Vec<u8>>, AllocError>
     ensures { IfOk result (λ v. copies v.items ≡ replicate count bytes.now) }
 {
-    (0..count)
-        .map(|_| copy_of(heap, bytes, room))
-        .try_collect(heap)
+    let mut all = Vec::new(heap);
+    // Stays a loop: of `try_collect` over a range the check does not see what it collects.
+    'copies: for _ in 0..count {
+        all.push(copy_of(heap, bytes, room)?)?;
+    }
+    Ok(all)
 }
