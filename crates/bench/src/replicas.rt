@@ -48,6 +48,7 @@ pub(crate) fn copies_of(
     ensures { IfOk result (λ v. copies v.items ≡ replicate count bytes.now) }
 {
     let mut all = Vec::new(heap);
+    // Stays a loop: of `try_collect` over a range the check does not see what it collects.
     'copies: for _ in 0..count {
         all.push(copy_of(heap, bytes, room)?)?;
     }

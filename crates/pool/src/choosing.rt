@@ -32,8 +32,8 @@ fn first_spare(spares: &[Datanode], survivors: &[Datanode], failed: &[Datanode])
 }
 
 impl SpareDatanodes {
-    /// These datanodes to spare, with memory for every list that they are offered in.
-    pub fn new(heap: Global, spares: &[Datanode]) -> Result<SpareDatanodes, AllocError>
+    // These datanodes to spare, with memory for every list that they are offered in.
+    pub(crate) fn new(heap: Global, spares: &[Datanode]) -> Result<SpareDatanodes, AllocError>
         ensures { IfOk result (λ s. (vec_items s.spares ≡ spares.now) × (vec_items s.offered ≡ [])) }
     {
         let mut kept = Vec::new(heap);

@@ -29,6 +29,7 @@ pub type House = MemoryNamenode<NoSpares>;
 /// A namenode of one block, which has datanodes to spare.
 pub type Pool = MemoryNamenode<SpareDatanodes>;
 
+// Both makers take the entry's parts one by one: a struct of them would be a `Book` without its memory.
 impl MemoryNamenode<NoSpares> {
     /// A namenode that has the block at this stamp and length on these datanodes. This alone takes memory.
     pub fn new(

@@ -79,6 +79,7 @@ pub fn store_block<L: Link>(
         tally.put = tally.put.saturating_add(1);
         tally.hear(heard)?;
     }
+    // Stays a count: a link that has an answer each time would never let a `while` end.
     for _ in 0..=count {
         if !tally.hear(ask(link, answer)?)? {
             break;

@@ -14,6 +14,7 @@ pub enum NoChoice {
 }
 
 // Two datanodes are the same where they have the same address: ip and port.
+// Stays a function: it compares two parts of a datanode, where `==` would compare them all.
 fn same_address(a: &Datanode, b: &Datanode) -> bool
     ensures { result ≡ same_address a.now b.now }
 {

@@ -23,6 +23,7 @@ enum Key {
 }
 
 // The setting of that name, letter for letter.
+// Stays a match on the name, as the project wants it: each name stands in one place, beside its setting.
 fn key_of(name: &str) -> Option<Key>
     ensures { result ≡ key_of name.now }
 {
@@ -35,6 +36,7 @@ fn key_of(name: &str) -> Option<Key>
 }
 
 // A switch is on at `true` alone, in letters of either case.
+// Stays a function: `bool` is read from no other word than `true` and `false`, in small letters.
 fn is_true(value: &str) -> bool
     ensures { result ≡ is_true value.now }
 {
