@@ -7,7 +7,7 @@ ghost use Rattle.wire.specs.Read.{wire};
 use crate::field::Field;
 use crate::fields::Fields;
 
-/// What a field can be asked for as: a part, or a varint.
+/// What the value of a field can be read as: a part, or a varint.
 pub trait Wanted<'a>: Copy {
     /// What the value is to a contract.
     ghost View: { Type 0 };
@@ -22,7 +22,7 @@ pub trait Wanted<'a>: Copy {
     fn absent() -> Self
         ensures { view result ≡ absent };
 
-    /// The value of the field, where it has that tag and holds such a value.
+    /// The value of the field, where it has that tag and holds such a value, and else this one.
     fn or(self, field: Field<'a>, tag: u32) -> Self
         ensures { view result ≡ pick tag (view self) (wire field.entry) };
 }
