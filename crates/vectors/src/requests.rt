@@ -1,7 +1,6 @@
 //! What all requests are made of: the block, its token, the client and the datanodes.
 use crate::error::LineError;
 use crate::hex::octets;
-use crate::number::{u8_of, u64_of};
 use proto::block::ExtendedBlock;
 use proto::datanode::Datanode;
 use proto::fixed::Fixed;
@@ -10,10 +9,7 @@ use std::alloc::Global;
 
 /// A text of at most 64 octets.
 pub fn text_of(text: &str) -> Result<Fixed<64>, LineError> {
-    match Fixed::copy_of(text.as_bytes()) {
-        Some(kept) => Ok(kept),
-        None => Err(LineError::Form),
-    }
+    Fixed::copy_of(text.as_bytes()).ok_or(LineError::Form)
 }
 
 /// `POOL ID STAMP BYTES`
@@ -23,34 +19,24 @@ pub fn block_of(words: &[&str]) -> Result<ExtendedBlock, LineError> {
     };
     Ok(ExtendedBlock {
         pool_id: text_of(pool)?,
-        block_id: u64_of(id)?,
-        generation_stamp: u64_of(stamp)?,
-        num_bytes: u64_of(bytes)?,
+        block_id: id.parse()?,
+        generation_stamp: stamp.parse()?,
+        num_bytes: bytes.parse()?,
     })
 }
 
 /// A token, as the octets of its message.
 pub fn token_of(heap: Global, word: &str) -> Result<Token, LineError> {
     let message = octets(heap, word)?;
-    match Token::new(message.as_slice()) {
-        Some(token) => Ok(token),
-        None => Err(LineError::Form),
-    }
+    Token::new(message.as_slice()).ok_or(LineError::Form)
 }
 
 /// `INFO:STORAGE:TYPE`
 pub fn node_of(heap: Global, word: &str) -> Result<Datanode, LineError> {
-    let Some((info, storage)) = word.split_once(':') else {
-        return Err(LineError::Form);
-    };
-    let Some((name, kind)) = storage.split_once(':') else {
-        return Err(LineError::Form);
-    };
+    let (info, storage) = word.split_once(':').ok_or(LineError::Form)?;
+    let (name, kind) = storage.split_once(':').ok_or(LineError::Form)?;
     let info = octets(heap, info)?;
-    match Datanode::new(info.as_slice(), name.as_bytes(), u8_of(kind)?) {
-        Some(node) => Ok(node),
-        None => Err(LineError::Form),
-    }
+    Datanode::new(info.as_slice(), name.as_bytes(), kind.parse()?).ok_or(LineError::Form)
 }
 
 /// Datanodes, a word for each.

@@ -2,6 +2,9 @@
 ghost use Rattle.std.specs.Prelude.{◌≡◌};
 ghost use Rattle.vectors.specs.Tallies.{nothing, agreed_on, differed_in};
 
+use crate::error::LineError;
+use std::str::FromStr;
+
 /// What a line of the table is a vector of.
 #[derive(Clone, Copy, Debug, PartialEq, Eq)]
 pub enum Kind {
@@ -10,6 +13,21 @@ pub enum Kind {
     Transfer,
     Answer,
     Response,
+}
+
+impl FromStr for Kind {
+    type Err = LineError;
+
+    fn from_str(word: &str) -> Result<Kind, LineError> {
+        match word {
+            "frame" => Ok(Kind::Frame),
+            "write" => Ok(Kind::Write),
+            "transfer" => Ok(Kind::Transfer),
+            "answer" => Ok(Kind::Answer),
+            "response" => Ok(Kind::Response),
+            _ => Err(LineError::Form),
+        }
+    }
 }
 
 /// How many lines agree, by their kind, and how many do not.

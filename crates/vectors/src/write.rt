@@ -1,7 +1,6 @@
 //! Requests that set up a pipeline: written by us, and read by us as the far end does.
 use crate::error::LineError;
 use crate::hex::octets;
-use crate::number::{u32_of, u64_of};
 use crate::requests::{block_of, node_of, nodes_of, text_of, token_of};
 use proto::block::ClientOperationHeader;
 use proto::datanode::Datanode;
@@ -28,6 +27,7 @@ struct Numbers {
     chunk_size: u32,
 }
 
+// Stays a function: neither FromStr nor the stage is of this crate.
 fn stage_of(word: &str) -> Result<Stage, LineError> {
     match word {
         "append" => Ok(Stage::SetupAppend),
@@ -43,10 +43,10 @@ fn numbers_of(words: &[&str]) -> Result<Numbers, LineError> {
     };
     Ok(Numbers {
         stage: stage_of(stage)?,
-        min_bytes: u64_of(min)?,
-        max_bytes: u64_of(max)?,
-        latest_stamp: u64_of(latest)?,
-        chunk_size: u32_of(chunk)?,
+        min_bytes: min.parse()?,
+        max_bytes: max.parse()?,
+        latest_stamp: latest.parse()?,
+        chunk_size: chunk.parse()?,
     })
 }
 
