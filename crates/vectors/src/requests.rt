@@ -5,6 +5,7 @@ use proto::block::ExtendedBlock;
 use proto::datanode::Datanode;
 use proto::fixed::Fixed;
 use proto::token::Token;
+use request::send::{Request, send};
 use std::alloc::Global;
 
 /// A text of at most 64 octets.
@@ -37,6 +38,15 @@ pub fn node_of(heap: Global, word: &str) -> Result<Datanode, LineError> {
     let (name, kind) = storage.split_once(':').ok_or(LineError::Form)?;
     let info = octets(heap, info)?;
     Datanode::new(info.as_slice(), name.as_bytes(), kind.parse()?).ok_or(LineError::Form)
+}
+
+/// Whether the request is written as these octets.
+pub fn is_sent_as<R: Request>(request: &R, octets: &[u8]) -> bool {
+    let mut buf = [0u8; 4096];
+    match send(request, &mut buf) {
+        Some(end) => end <= 4096 && &buf[..end] == octets,
+        None => false,
+    }
 }
 
 /// Datanodes, a word for each.
