@@ -1,5 +1,6 @@
 //! Why a line of the table cannot be run.
 use std::alloc::{AllocError, AllocFailed};
+use std::num::ParseIntError;
 
 /// What is wrong with a line.
 #[derive(Clone, Copy, Debug, PartialEq, Eq)]
@@ -8,6 +9,12 @@ pub enum LineError {
     Form,
     /// No memory was left for it.
     Memory,
+}
+
+impl From<ParseIntError> for LineError {
+    fn from(_: ParseIntError) -> LineError {
+        LineError::Form
+    }
 }
 
 impl From<AllocError> for LineError {

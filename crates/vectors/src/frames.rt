@@ -1,7 +1,6 @@
 //! Frames: written by us and read by us.
 use crate::error::LineError;
 use crate::hex::octets;
-use crate::number::{u32_of, u64_of};
 use packet::frame::{WritePacket, write_frame};
 use packet::read::read_frame;
 use packet::sums::sums_match;
@@ -24,13 +23,10 @@ fn reads(frame: &[u8], packet: WritePacket<'_>, chunk_size: u32) -> bool {
     let Some(read) = read_frame(frame) else {
         return false;
     };
-    read.offset == packet.offset
-        && read.seqno == packet.seqno
-        && read.last == packet.last
-        && read.data == packet.data
-        && sums_match(read.sums, read.data, chunk_size)
+    read.packet == packet && sums_match(read.sums, packet.data, chunk_size)
 }
 
+// Stays a function: neither FromStr nor `bool` is of this crate.
 fn is_last(word: &str) -> Result<bool, LineError> {
     match word {
         "last" => Ok(true),
@@ -44,12 +40,12 @@ pub fn agrees(heap: Global, words: &[&str]) -> Result<bool, LineError> {
     let [chunk, offset, seqno, last, data, frame] = words else {
         return Err(LineError::Form);
     };
-    let chunk_size = u32_of(chunk)?;
+    let chunk_size = chunk.parse()?;
     let data = octets(heap, data)?;
     let frame = octets(heap, frame)?;
     let packet = WritePacket {
-        offset: u64_of(offset)?,
-        seqno: u64_of(seqno)?,
+        offset: offset.parse()?,
+        seqno: seqno.parse()?,
         last: is_last(last)?,
         data: data.as_slice(),
     };

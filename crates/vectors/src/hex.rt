@@ -21,27 +21,23 @@ fn digit(b: u8) -> Option<u8>
 fn octet(high: u8, low: u8) -> Result<u8, LineError>
     ensures { result ≡ octet_of high low }
 {
-    let Some(high) = digit(high) else {
-        return Err(LineError::Form);
-    };
-    let Some(low) = digit(low) else {
-        return Err(LineError::Form);
-    };
+    let high = digit(high).ok_or(LineError::Form)?;
+    let low = digit(low).ok_or(LineError::Form)?;
     Ok(16 * high + low)
 }
 
 /// The octets of a text of two digits each. A dash stands for none.
 pub fn octets(heap: Global, text: &str) -> Result<Vec<u8>, LineError> {
     let mut out = Vec::new(heap);
-    let digits = text.as_bytes();
     if text == "-" {
         return Ok(out);
     }
-    if digits.len() % 2 != 0 {
+    let (pairs, rest) = text.as_bytes().as_chunks::<2>();
+    if !rest.is_empty() {
         return Err(LineError::Form);
     }
-    for i in 0..digits.len() / 2 {
-        out.push(octet(digits[2 * i], digits[2 * i + 1])?)?;
+    for [high, low] in pairs {
+        out.push(octet(*high, *low)?)?;
     }
     Ok(out)
 }

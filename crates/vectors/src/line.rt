@@ -4,25 +4,11 @@ use crate::tally::Kind;
 use crate::{answers, frames, transfer, write};
 use std::alloc::Global;
 
-fn kind_of(word: &str) -> Result<Kind, LineError> {
-    match word {
-        "frame" => Ok(Kind::Frame),
-        "write" => Ok(Kind::Write),
-        "transfer" => Ok(Kind::Transfer),
-        "answer" => Ok(Kind::Answer),
-        "response" => Ok(Kind::Response),
-        _ => Err(LineError::Form),
-    }
-}
-
 /// The kind of a line, and whether our octets or our verdict agree with it.
 pub fn run(heap: Global, line: &str) -> Result<(Kind, bool), LineError> {
     let words: Vec<&str> = line.split(' ').collect(heap)?;
-    if words.len() == 0 {
-        return Err(LineError::Form);
-    }
-    let kind = kind_of(words[0])?;
-    let rest = &words[1..words.len()];
+    let (kind, rest) = words.as_slice().split_first().ok_or(LineError::Form)?;
+    let kind = kind.parse()?;
     let agrees = match kind {
         Kind::Frame => frames::agrees(heap, rest)?,
         Kind::Write => write::agrees(heap, rest)?,

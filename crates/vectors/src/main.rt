@@ -6,7 +6,6 @@ mod error;
 mod frames;
 mod hex;
 mod line;
-mod number;
 mod requests;
 mod tally;
 mod transfer;
@@ -47,8 +46,7 @@ fn main(rt: HostRuntime) -> io::Result<()> {
         let outcome = line::run(heap, text.as_str());
         tally = match outcome {
             Ok((kind, true)) => tally.agreed(kind),
-            Ok((_, false)) => tally.differed(),
-            Err(_) => tally.differed(),
+            Ok((_, false)) | Err(_) => tally.differed(),
         };
         note(&rt, i.saturating_add(1), outcome)?;
     }

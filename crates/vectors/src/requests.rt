@@ -1,19 +1,16 @@
 //! What all requests are made of: the block, its token, the client and the datanodes.
 use crate::error::LineError;
 use crate::hex::octets;
-use crate::number::{u8_of, u64_of};
 use proto::block::ExtendedBlock;
 use proto::datanode::Datanode;
 use proto::fixed::Fixed;
 use proto::token::Token;
+use request::send::{Request, send};
 use std::alloc::Global;
 
 /// A text of at most 64 octets.
 pub fn text_of(text: &str) -> Result<Fixed<64>, LineError> {
-    match Fixed::copy_of(text.as_bytes()) {
-        Some(kept) => Ok(kept),
-        None => Err(LineError::Form),
-    }
+    Fixed::copy_of(text.as_bytes()).ok_or(LineError::Form)
 }
 
 /// `POOL ID STAMP BYTES`
@@ -23,33 +20,32 @@ pub fn block_of(words: &[&str]) -> Result<ExtendedBlock, LineError> {
     };
     Ok(ExtendedBlock {
         pool_id: text_of(pool)?,
-        block_id: u64_of(id)?,
-        generation_stamp: u64_of(stamp)?,
-        num_bytes: u64_of(bytes)?,
+        block_id: id.parse()?,
+        generation_stamp: stamp.parse()?,
+        num_bytes: bytes.parse()?,
     })
 }
 
 /// A token, as the octets of its message.
 pub fn token_of(heap: Global, word: &str) -> Result<Token, LineError> {
     let message = octets(heap, word)?;
-    match Token::new(message.as_slice()) {
-        Some(token) => Ok(token),
-        None => Err(LineError::Form),
-    }
+    Token::new(message.as_slice()).ok_or(LineError::Form)
 }
 
 /// `INFO:STORAGE:TYPE`
 pub fn node_of(heap: Global, word: &str) -> Result<Datanode, LineError> {
-    let Some((info, storage)) = word.split_once(':') else {
-        return Err(LineError::Form);
-    };
-    let Some((name, kind)) = storage.split_once(':') else {
-        return Err(LineError::Form);
-    };
+    let (info, storage) = word.split_once(':').ok_or(LineError::Form)?;
+    let (name, kind) = storage.split_once(':').ok_or(LineError::Form)?;
     let info = octets(heap, info)?;
-    match Datanode::new(info.as_slice(), name.as_bytes(), u8_of(kind)?) {
-        Some(node) => Ok(node),
-        None => Err(LineError::Form),
+    Datanode::new(info.as_slice(), name.as_bytes(), kind.parse()?).ok_or(LineError::Form)
+}
+
+/// Whether the request is written as these octets.
+pub fn is_sent_as<R: Request>(request: &R, octets: &[u8]) -> bool {
+    let mut buf = [0u8; 4096];
+    match send(request, &mut buf) {
+        Some(end) => end <= 4096 && &buf[..end] == octets,
+        None => false,
     }
 }
 

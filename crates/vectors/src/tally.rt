@@ -1,6 +1,9 @@
 //! How many lines of each kind agree.
 ghost use Rattle.std.specs.Prelude.{◌≡◌};
-ghost use Rattle.vectors.specs.Tallies.{nothing, agreed_on, differed_in};
+ghost use Rattle.vectors.specs.Tallies.{more, nothing, agreed_on, differed_in};
+
+use crate::error::LineError;
+use std::str::FromStr;
 
 /// What a line of the table is a vector of.
 #[derive(Clone, Copy, Debug, PartialEq, Eq)]
@@ -12,6 +15,21 @@ pub enum Kind {
     Response,
 }
 
+impl FromStr for Kind {
+    type Err = LineError;
+
+    fn from_str(word: &str) -> Result<Kind, LineError> {
+        match word {
+            "frame" => Ok(Kind::Frame),
+            "write" => Ok(Kind::Write),
+            "transfer" => Ok(Kind::Transfer),
+            "answer" => Ok(Kind::Answer),
+            "response" => Ok(Kind::Response),
+            _ => Err(LineError::Form),
+        }
+    }
+}
+
 /// How many lines agree, by their kind, and how many do not.
 #[derive(Clone, Copy, Debug, PartialEq, Eq)]
 pub struct Tally {
@@ -21,6 +39,13 @@ pub struct Tally {
     pub answers: u32,
     pub responses: u32,
     pub differing: u32,
+}
+
+// One line more, up to what 32 bits hold.
+fn count(lines: &mut u32)
+    ensures { lines.new ≡ more lines.old }
+{
+    *lines = lines.saturating_add(1);
 }
 
 impl Tally {
@@ -38,40 +63,24 @@ impl Tally {
     }
 
     /// Counts a line that agrees.
-    pub fn agreed(self, kind: Kind) -> Tally
+    pub fn agreed(mut self, kind: Kind) -> Tally
         ensures { result ≡ agreed_on self kind }
     {
         match kind {
-            Kind::Frame => Tally {
-                frames: self.frames.saturating_add(1),
-                ..self
-            },
-            Kind::Write => Tally {
-                writes: self.writes.saturating_add(1),
-                ..self
-            },
-            Kind::Transfer => Tally {
-                transfers: self.transfers.saturating_add(1),
-                ..self
-            },
-            Kind::Answer => Tally {
-                answers: self.answers.saturating_add(1),
-                ..self
-            },
-            Kind::Response => Tally {
-                responses: self.responses.saturating_add(1),
-                ..self
-            },
+            Kind::Frame => count(&mut self.frames),
+            Kind::Write => count(&mut self.writes),
+            Kind::Transfer => count(&mut self.transfers),
+            Kind::Answer => count(&mut self.answers),
+            Kind::Response => count(&mut self.responses),
         }
+        self
     }
 
     /// Counts a line that does not.
-    pub fn differed(self) -> Tally
+    pub fn differed(mut self) -> Tally
         ensures { result ≡ differed_in self }
     {
-        Tally {
-            differing: self.differing.saturating_add(1),
-            ..self
-        }
+        count(&mut self.differing);
+        self
     }
 }

@@ -1,11 +1,9 @@
 //! Requests that set up a pipeline: written by us, and read by us as the far end does.
 use crate::error::LineError;
 use crate::hex::octets;
-use crate::number::{u32_of, u64_of};
-use crate::requests::{block_of, node_of, nodes_of, text_of, token_of};
+use crate::requests::{block_of, is_sent_as, node_of, nodes_of, text_of, token_of};
 use proto::block::ClientOperationHeader;
 use proto::datanode::Datanode;
-use request::send::send;
 use request::setup::Setup;
 use request::stage::Stage;
 use request::write_block::WriteBlock;
@@ -28,6 +26,7 @@ struct Numbers {
     chunk_size: u32,
 }
 
+// Stays a function: neither FromStr nor the stage is of this crate.
 fn stage_of(word: &str) -> Result<Stage, LineError> {
     match word {
         "append" => Ok(Stage::SetupAppend),
@@ -43,20 +42,11 @@ fn numbers_of(words: &[&str]) -> Result<Numbers, LineError> {
     };
     Ok(Numbers {
         stage: stage_of(stage)?,
-        min_bytes: u64_of(min)?,
-        max_bytes: u64_of(max)?,
-        latest_stamp: u64_of(latest)?,
-        chunk_size: u32_of(chunk)?,
+        min_bytes: min.parse()?,
+        max_bytes: max.parse()?,
+        latest_stamp: latest.parse()?,
+        chunk_size: chunk.parse()?,
     })
-}
-
-// Whether the request is written as these octets.
-fn writes(write: &WriteBlock<'_>, request: &[u8]) -> bool {
-    let mut buf = [0u8; 4096];
-    match send(write, &mut buf) {
-        Some(end) => end <= 4096 && &buf[0..end] == request,
-        None => false,
-    }
 }
 
 // Whether the octets are read as a set up by the numbers of the request.
@@ -95,7 +85,7 @@ fn both_ways<'a>(
         latest_stamp: numbers.latest_stamp,
         chunk_size: numbers.chunk_size,
     };
-    writes(&write, request) && reads(request, &write)
+    is_sent_as(&write, request) && reads(request, &write)
 }
 
 /// `POOL ID STAMP BYTES TOKEN CLIENT STAGE MIN MAX LATEST CHUNK NODE .. REQUEST`: whether that is the request, both ways.
