@@ -1,6 +1,9 @@
 //! Octets in a memory of their own, of a length that is bounded: what the writer keeps of texts and messages without allocating.
 ghost use Rattle.std.specs.Prelude.{◌≡◌, ◌<◌, ◌≤◌, length, take, MatchResult};
 
+use std::error::Error;
+use std::fmt;
+
 /// At most `N` octets: the first `len` of `octets`. Stays a buffer with its length: it is copied freely, and nothing is allocated.
 #[derive(Clone, Copy)]
 pub struct Fixed<const N: usize> {
@@ -31,6 +34,14 @@ impl<const N: usize> Fixed<N> {
 /// More octets than there is memory for.
 #[derive(Clone, Copy, Debug, PartialEq, Eq)]
 pub struct TooLong;
+
+impl fmt::Display for TooLong {
+    fn fmt<W: fmt::Write>(&self, f: &mut fmt::Formatter<W>) -> fmt::Result {
+        write!(f, "there are more octets than there is memory for")
+    }
+}
+
+impl Error for TooLong {}
 
 /// A copy of some octets, where they are at most `N`.
 impl<const N: usize> TryFrom<&[u8]> for Fixed<N> {

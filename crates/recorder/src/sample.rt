@@ -26,7 +26,7 @@ pub fn node() -> anyhow::Result<Datanode> {
 }
 
 fn text(bytes: &[u8]) -> anyhow::Result<Fixed<64>> {
-    Fixed::copy_of(bytes).context("a text is longer than 64 octets")
+    Fixed::try_from(bytes).context("a text is longer than 64 octets")
 }
 
 /// Writes the request for a new block on as many datanodes, 1 to 8, to the front of `out`, and answers its length.

@@ -1,4 +1,5 @@
 //! Why a line of the table cannot be run.
+use proto::fixed::TooLong;
 use std::alloc::{AllocError, AllocFailed};
 use std::num::ParseIntError;
 
@@ -13,6 +14,12 @@ pub enum LineError {
 
 impl From<ParseIntError> for LineError {
     fn from(_: ParseIntError) -> LineError {
+        LineError::Form
+    }
+}
+
+impl From<TooLong> for LineError {
+    fn from(_: TooLong) -> LineError {
         LineError::Form
     }
 }

@@ -10,7 +10,7 @@ use std::alloc::Global;
 
 /// A text of at most 64 octets.
 pub fn text_of(text: &str) -> Result<Fixed<64>, LineError> {
-    Fixed::copy_of(text.as_bytes()).ok_or(LineError::Form)
+    Ok(Fixed::try_from(text.as_bytes())?)
 }
 
 /// `POOL ID STAMP BYTES`

@@ -52,7 +52,7 @@ fn numbers_of(words: &[&str]) -> Result<Numbers, LineError> {
 // Whether the octets are read as a set up by the numbers of the request.
 fn reads(request: &[u8], write: &WriteBlock<'_>) -> bool {
     let expected = Setup {
-        stage: write.stage.number(),
+        stage: u64::from(write.stage),
         pipeline_size: write.targets.len() as u64 + 1,
         min_bytes: write.min_bytes,
         max_bytes: write.max_bytes,
