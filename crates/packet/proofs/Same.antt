@@ -1,8 +1,8 @@
 -- Whether two lists of octets are the same. Assumes nothing.
-use Rattle.std.proofs.Common.{◌≡◌, ℕ, Bool, true, false, not, eqb, List, [], ◌∷◌, length, Decides, sym, refl, ◌∙◌, arith}
+use Rattle.std.proofs.Common.{◌≡◌, ℕ, Bool, true, false, not, List, Decides, sym, refl, ◌∙◌}
 use Rattle.std.specs.Str.{bytes_eq}
 use Rattle.std.proofs.lemmas.Slice.Eq.{bytes_eq-Decides}
-use Rattle.std.proofs.lemmas.Bool.{ne_eqb, both_ways, not-true, not-false}
+use Rattle.std.proofs.lemmas.Bool.{both_ways, not-true, not-false}
 
 pub same : (s t : List ℕ) → s ≡ t → true ≡ bytes_eq s t
 same s t e = sym ((bytes_eq-Decides s t).1 e)
@@ -13,10 +13,6 @@ other s t n = go (bytes_eq s t) (bytes_eq-Decides s t)
     go : (b : Bool) → Decides b (s ≡ t) → false ≡ b
     go true d = absurd (n (d.0 refl))
     go false d = refl
-
-pub same_none : (s : List ℕ) → eqb (length s) 0 ≡ bytes_eq s []
-same_none [] = refl
-same_none (x ∷ xs) = ne_eqb (length (x ∷ xs)) 0 (λ e. omega arith)
 
 -- what `!=` answers
 pub differ : (s t : List ℕ) (x r : Bool) → Decides x (s ≡ t) → r ≡ not x → r ≡ true → s ≡ t → ⊥

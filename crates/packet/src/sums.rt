@@ -22,6 +22,7 @@ pub(crate) fn put_sums(out: &mut [u8], data: &[u8], chunk_size: u32)
     if chunk_size == 0 {
         return;
     }
+    // Stays by places in `out`: of what is written through `chunks_exact_mut` a proof knows the length alone.
     for (k, chunk) in data.chunks(chunk_size as usize).enumerate() {
         let sum = crc32c::checksum(chunk);
         out[4 * k..4 * k + 4].copy_from_slice(&sum.to_be_bytes());

@@ -1,8 +1,8 @@
 -- A number's digits, one by one. Assumes nothing.
-use Rattle.std.proofs.Common.{◌≡◌, ℕ, ◌+◌, ◌-◌, ◌*◌, ◌<◌, ◌≤◌, true, false, eqb, ltb, List, [], ◌∷◌, length, get_or, drop, Ok, sym, refl, ap, ◌∙◌, arith}
+use Rattle.std.proofs.Common.{◌≡◌, ℕ, ◌+◌, ◌-◌, ◌*◌, ◌<◌, ◌≤◌, true, false, List, [], ◌∷◌, length, get_or, drop, Ok, sym, refl, ap, ◌∙◌, arith}
 use Rattle.std.specs.Char.{is_ascii_digit}
-use Rattle.std.proofs.lemmas.List.{at_drop_more, at_drop_all, get_or_past}
-use Rattle.std.proofs.lemmas.Bool.{cond-true, cond-false, eq-eqb, ne_eqb, le-leb, lt-leb, le-ltb}
+use Rattle.std.proofs.lemmas.List.{at_drop_more, at_drop_all}
+use Rattle.std.proofs.lemmas.Bool.{cond-true, cond-false, eq-eqb, ne_eqb, le-leb, lt-leb}
 use Rattle.readings.specs.declared.number.LineFault.TheVariants.{DigitExpected, AboveLimit}
 use Rattle.readings.specs.Line.{digits, decimal_from, fault_at, number_of}
 
@@ -66,7 +66,3 @@ module _ {xs : List ℕ} {limit at i n : ℕ} (s : Scanned xs limit at i n) wher
         let p : i ≡ at + length (digits (drop at xs)) = omega (arith, s.place, ap length e) in
         (λ j. Ok (v j, p j))
         ∙ sym (cond-false _ _ _ (ne_eqb (length (digits (drop at xs))) 0 (omega (arith, s.past))) ∙ cond-true _ _ _ (le-leb (decimal_from 0 (digits (drop at xs))) limit (omega (arith, v, s.low))))
-
--- past the end there is neither comma nor semicolon
-pub no_mark : (xs : List ℕ) (at b : ℕ) → eqb 0 b ≡ false → length xs ≤ at → ltb at (length xs) ≡ eqb (get_or xs at 0) b
-no_mark xs at b z h = le-ltb at (length xs) h ∙ sym (ap (λ x. eqb x b) (get_or_past xs at 0 h) ∙ z)

@@ -1,4 +1,4 @@
-use Rattle.std.proofs.Common.{◌≡◌, ℕ, ◌+◌, ◌<◌, length, get_or, Ok, refl, ap, ◌∙◌, arith, rules}
+use Rattle.std.proofs.Common.{◌≡◌, ℕ, ◌+◌, ◌<◌, get_or, Ok, refl, ap, ◌∙◌, arith, rules}
 use Rattle.std.proofs.iter.Serving.{serving}
 use Rattle.readings.specs.Line.{parsed, reading_from, table}
 use Rattle.wire.specs.Read.{and_then}
