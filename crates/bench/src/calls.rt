@@ -49,7 +49,7 @@ impl Link for Bench {
     }
 
     fn put(&mut self, frame: &[u8]) -> Result<(), LinkLost> {
-        let packet = read_frame(frame).ok_or(LinkLost)?;
+        let packet = read_frame(frame).ok_or(LinkLost)?.packet;
         if !has_room(&self.mirrors, packet.data.len()) {
             return Err(LinkLost);
         }

@@ -11,11 +11,7 @@ use recording::cut::packet_count;
 // Whether the frame's octets are read back as that packet, with the sums of its data.
 fn comes_back(octets: &[u8], packet: WritePacket<'_>, chunk_size: u32) -> bool {
     read_frame(octets).is_some_and(|frame| {
-        frame.offset == packet.offset
-            && frame.seqno == packet.seqno
-            && frame.last == packet.last
-            && frame.data == packet.data
-            && sums_match(frame.sums, frame.data, chunk_size)
+        frame.packet == packet && sums_match(frame.sums, packet.data, chunk_size)
     })
 }
 

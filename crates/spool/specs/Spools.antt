@@ -78,7 +78,7 @@ confirms_first v = confirms_from v v.held
 
 -- a frame of the program as the packet that it carries
 abbrev pub packet_of : Frame → Packet
-packet_of f = record { offset = f.offset; seqno = f.seqno; last = f.last; sums = f.sums.now; bytes = f.«data».now }
+packet_of f = record { offset = f.packet.offset; seqno = f.packet.seqno; last = f.packet.last; sums = f.sums.now; bytes = f.packet.«data».now }
 
 -- a new spool keeps what its buffer has, and has not been set up
 abbrev pub fresh : List ℕ → ℕ → ℕ → View

@@ -64,14 +64,14 @@ impl Link for Spool {
     }
 
     fn put(&mut self, frame: &[u8]) -> Result<(), LinkLost> {
-        let packet = read_frame(frame).ok_or(LinkLost)?;
-        if packet.seqno == HEART_BEAT_SEQNO {
+        let read = read_frame(frame).ok_or(LinkLost)?;
+        if read.packet.seqno == HEART_BEAT_SEQNO {
             return Ok(());
         }
-        if !self.takes(packet) {
+        if !self.takes(read) {
             return Err(LinkLost);
         }
-        self.hold(packet);
+        self.hold(read);
         Ok(())
     }
 

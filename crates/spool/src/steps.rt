@@ -36,26 +36,27 @@ impl Spool {
     pub(crate) fn takes(&self, frame: Frame<'_>) -> bool
         ensures { result ≡ takes (view_of self.now) (packet_of frame.entry) }
     {
-        frame.offset == self.bytes.len() as u64
-            && sums_match(frame.sums, frame.data, self.chunk)
+        let packet = frame.packet;
+        packet.offset == self.bytes.len() as u64
+            && sums_match(frame.sums, packet.data, self.chunk)
             && self.held.len() < PENDING
             && self.bytes.len() <= self.limit
-            && frame.data.len() <= self.limit - self.bytes.len()
+            && packet.data.len() <= self.limit - self.bytes.len()
     }
 
     // Adds a packet to those that wait.
     pub(crate) fn hold(&mut self, frame: Frame<'_>)
-        requires { (deque_len self.old.held < 128) × (vec_len self.old.bytes + length frame.«data».now ≤ self.old.limit) }
+        requires { (deque_len self.old.held < 128) × (vec_len self.old.bytes + length frame.packet.«data».now ≤ self.old.limit) }
         ensures { view_of self.new ≡ with_pending (view_of self.old) (packet_of frame.entry) }
     {
-        let len = frame.data.len();
+        let packet = frame.packet;
         let waiting = Pending {
-            seqno: frame.seqno,
-            last: frame.last,
-            len,
+            seqno: packet.seqno,
+            last: packet.last,
+            len: packet.data.len(),
         };
         let _ = self.held.push_back(waiting);
-        let _ = self.bytes.extend_from_slice(frame.data);
+        let _ = self.bytes.extend_from_slice(packet.data);
     }
 
     // Confirms the first packet, where one waits.

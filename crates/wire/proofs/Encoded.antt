@@ -44,6 +44,20 @@ part_is tag bs = encode_one (part tag bs)
 pub part_length : (tag : ℕ) (bs : List ℕ) → length (encode_all (part tag bs ∷ [])) ≡ length (prefix tag (length bs)) + length bs
 part_length tag bs = ap length (part_is tag bs) ∙ length-append (prefix tag (length bs)) bs
 
+pub fixed64_is : (tag n : ℕ) → encode_all (fixed64 tag n ∷ []) ≡ key tag 1 ++ little 8 n
+unfolding encode
+fixed64_is tag n = encode_one (fixed64 tag n)
+
+pub fixed64_length : (tag n : ℕ) → length (encode_all (fixed64 tag n ∷ [])) ≡ length (key tag 1) + 8
+fixed64_length tag n = ap length (fixed64_is tag n) ∙ length-append (key tag 1) (little 8 n)
+
+pub fixed32_is : (tag n : ℕ) → encode_all (fixed32 tag n ∷ []) ≡ key tag 5 ++ little 4 n
+unfolding encode
+fixed32_is tag n = encode_one (fixed32 tag n)
+
+pub fixed32_length : (tag n : ℕ) → length (encode_all (fixed32 tag n ∷ [])) ≡ length (key tag 5) + 4
+fixed32_length tag n = ap length (fixed32_is tag n) ∙ length-append (key tag 5) (little 4 n)
+
 -- how many octets a field has
 pub varint_octets : (tag n : ℕ) → length (encode (varint tag n)) ≡ length (key tag 0) + length (varint_bytes n)
 unfolding encode

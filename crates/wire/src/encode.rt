@@ -60,6 +60,15 @@ fn put_prefix(out: &mut [u8], tag: u32, inner: usize)
     put_pair(out, key.as_slice(), size.as_slice());
 }
 
+// A key, and the octets of a number of fixed width behind it.
+fn put_fixed(out: &mut [u8], tag: u32, wire_type: u64, octets: &[u8])
+    requires { (wire_type < 8) × (length out.old ≡ length (key tag wire_type) + length octets.now) }
+    ensures { out.new ≡ key tag wire_type ++ octets.now }
+{
+    let key = EncodedVarint::of(8 * tag as u64 + wire_type);
+    put_pair(out, key.as_slice(), octets);
+}
+
 impl Field<'_> {
     /// Whether so many octets are all that the field needs: its key, its length and its number each in the shortest varint.
     pub fn is_shortest(&self, octets: usize) -> bool
@@ -165,11 +174,13 @@ impl<A: Message, B: Message> Message for Then<A, B> {
     }
 }
 
-/// One field, of either kind.
+/// One field, of any kind.
 #[derive(Clone, Copy)]
 pub enum OneField<'a> {
     Uint(Uint),
+    Fixed64 { tag: u32, value: u64 },
     Bytes(Bytes<'a>),
+    Fixed32 { tag: u32, value: u32 },
 }
 
 impl<'a> Message for OneField<'a> {
@@ -178,14 +189,18 @@ impl<'a> Message for OneField<'a> {
     fn encoded_len(&self) -> usize {
         match self {
             OneField::Uint(field) => field.encoded_len(),
+            OneField::Fixed64 { tag, .. } => key_len(*tag, 1) + 8,
             OneField::Bytes(field) => field.encoded_len(),
+            OneField::Fixed32 { tag, .. } => key_len(*tag, 5) + 4,
         }
     }
 
     fn encode(&self, out: &mut [u8]) {
         match self {
             OneField::Uint(field) => field.encode(out),
+            OneField::Fixed64 { tag, value } => put_fixed(out, *tag, 1, &value.to_le_bytes()),
             OneField::Bytes(field) => field.encode(out),
+            OneField::Fixed32 { tag, value } => put_fixed(out, *tag, 5, &value.to_le_bytes()),
         }
     }
 }
