@@ -98,6 +98,8 @@ impl PipelineAck {
         }
     }
 
+    // A name of its own, as `read` of a response: what both do is `decode`, each at its own type.
+
     /// Reads an answer. An absent number is 0.
     pub fn read(input: &[u8]) -> Result<PipelineAck, DecodeError>
         ensures { result ≡ ack_read input.now }

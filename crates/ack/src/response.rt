@@ -14,6 +14,8 @@ pub struct BlockOpResponse {
 }
 
 impl BlockOpResponse {
+    // A name of its own, as `read` of an answer: what both do is `decode`, each at its own type.
+
     /// Reads a response. The last status counts.
     pub fn read(input: &[u8]) -> Result<BlockOpResponse, DecodeError>
         ensures { result ≡ response_of input.now }

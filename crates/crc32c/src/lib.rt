@@ -20,6 +20,8 @@ impl Polynomial for Castagnoli {
     }
 }
 
+// The three below are names for the generic check at this polynomial, so that callers name CRC-32C and no type.
+
 /// The register after `bytes`, where it was `crc` before them. It begins as all ones.
 pub fn update(crc: u32, bytes: &[u8]) -> u32
     ensures { result ≡ after 0x82F63B78 crc bytes.now }

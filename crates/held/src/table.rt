@@ -13,7 +13,7 @@ pub struct HeldPacket {
     pub len: usize,
 }
 
-/// A record for each slot that a store may have.
+/// A record for each slot that a store may have. A place is a number below 101: a type for it would be made and taken apart at each call.
 #[derive(Drop)]
 pub struct HeldTable {
     pub records: Vec<HeldPacket>,

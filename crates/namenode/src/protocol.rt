@@ -15,7 +15,7 @@ impl fmt::Display for Refused {
     }
 }
 
-/// A datanode as the namenode hands it out. Whether it is in form is for the writer to look at.
+/// A datanode as the namenode hands it out. Whether it is in form is for the writer to look at, so its storage's type is any number.
 #[derive(Clone, Copy)]
 pub struct Offered<'a> {
     pub info: &'a [u8],

@@ -21,7 +21,7 @@ fn read_rows<N: NamenodeProtocol>(namenode: &N, list: &mut NodeTable) -> Option<
     ensures { RowsRead (N.NamenodeProtocol.offer namenode.now).rows list.new.rows.items (is_some result) }
 {
     list.clear();
-    // Goes by the position, since a namenode lends its rows one by one.
+    // Stays by the position: a namenode lends its rows one by one, and has no iterator over them.
     for i in 0..namenode.offered_len() {
         let node = read_node(namenode.offered(i)?)?;
         list.push(&node);

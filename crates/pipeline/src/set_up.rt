@@ -22,7 +22,7 @@ pub struct Setting<'a> {
     pub chunk_size: u32,
 }
 
-// The request for these datanodes, which is sent to the first of them.
+// The request for these datanodes, one to eight, which is sent to the first of them. A slice, since a writer has them in several tables.
 fn request_for<'a>(setting: Setting<'a>, nodes: &'a [Datanode]) -> WriteBlock<'a>
     requires { (1 ≤ length nodes.now) × (length nodes.now ≤ 8) }
     ensures { Requests setting.entry nodes.now result }

@@ -87,6 +87,7 @@ pub(crate) fn number(line: &[u8], at: usize, limit: u64) -> Result<(u64, usize),
 {
     let mut value = 0u64;
     let mut next = at;
+    // Stays a loop: one pass finds where the digits end, and the first of them that passes the limit.
     while next < line.len() && line[next].is_ascii_digit() {
         let digit = u64::from(line[next] - b'0');
         if value > limit / 10 || digit > limit - 10 * value {

@@ -6,6 +6,8 @@ ghost use Rattle.proto.specs.Messages.{held, info_of};
 use proto::datanode::Datanode;
 use wire::encode::{Bytes, FieldOf, OneField, Uint};
 
+// An impl for each: they differ in tag, kind and what is read of a datanode, and one for all would say each of these in its place.
+
 /// `targets`: each datanode.
 #[derive(Clone, Copy)]
 pub struct TargetInfo;

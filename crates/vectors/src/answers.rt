@@ -6,6 +6,8 @@ use ack::response::BlockOpResponse;
 use ack::tally::FailedNodes;
 use std::alloc::{AllocError, Global};
 
+// Texts by functions: neither Display nor the verdict is of this crate.
+
 // The failed positions, with commas between them. Of those from 8 on only the highest is known.
 fn failed_text(heap: Global, failed: FailedNodes) -> Result<String, AllocError> {
     let mut text = String::from_str(heap, "failed:")?;

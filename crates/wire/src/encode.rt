@@ -32,7 +32,7 @@ fn put_pair(out: &mut [u8], first: &[u8], second: &[u8])
     out[middle..size].copy_from_slice(second);
 }
 
-// A key: the tag, and the wire type in the lowest three bits.
+// A key: the tag, and the wire type in the lowest three bits, which stays a number: nothing but keys has it.
 fn key_len(tag: u32, wire_type: u64) -> usize
     requires { wire_type < 8 }
     ensures value { result ≡ length (key tag wire_type) }

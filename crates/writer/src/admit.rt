@@ -10,7 +10,7 @@ use crate::state::kind::State;
 use crate::terms::Terms;
 use packet::size::PacketSize;
 
-/// The calls that act on an open writer.
+/// The calls that act on an open writer. No function is chosen by it: it says which refusals there are.
 #[derive(Clone, Copy)]
 pub enum Call {
     Write,

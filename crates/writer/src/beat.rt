@@ -21,7 +21,7 @@ use sending::put::put_packet;
 /// A heartbeat is put when so many seconds have passed.
 pub const HEARTBEAT_INTERVAL_SECONDS: u64 = 30;
 
-/// What came of a beat.
+/// What came of a beat. Stays an enum: none of the three is an error, the call was acted on.
 #[derive(Clone, Copy, Debug, PartialEq, Eq)]
 pub enum Beat {
     /// It is not time yet.

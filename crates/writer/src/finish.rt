@@ -18,7 +18,7 @@ use chain::link::{Link, LinkLost};
 /// What the end of a block came to.
 #[derive(Clone, Copy, Debug, PartialEq, Eq)]
 pub struct Finished {
-    /// Whether a frame was lost, so that the pipeline is broken.
+    /// Whether a frame was lost, so that the pipeline is broken. No error: the packets are held, and a recovery puts them again.
     pub put_lost: bool,
 }
 

@@ -17,7 +17,7 @@ use chain::link::Link;
 use held::table::HeldTable;
 use sending::ask::{AskError, ask};
 
-/// What an answer, or that none came, means.
+/// What an answer, or that none came, means. None of the five is an error: the answer was heeded.
 #[derive(Clone, Copy, Debug, PartialEq, Eq)]
 pub enum Heeded {
     /// No answer has come yet.
@@ -32,7 +32,7 @@ pub enum Heeded {
     Broken(Cause),
 }
 
-/// What a state and what was heard come to.
+/// What a state and what was heard come to. Stays an enum: what is decided is stated apart from what is done about it.
 #[derive(Clone, Copy)]
 pub enum Decision {
     Wait,

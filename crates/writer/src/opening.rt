@@ -28,7 +28,8 @@ pub struct Opening<'a> {
     pub packet_size: u32,
     pub replication: u32,
     pub replace: ReplaceDatanodeOnFailure,
-    /// Each datanode as a `DatanodeInfoProto`, with its storage's name and type at the same place of the next two.
+    /// Each datanode as a `DatanodeInfoProto`, with its storage's name and type at the same place of the next two. Three lists, as they come
+    /// from outside: uneven ones are refused with a number of their own.
     pub infos: &'a [&'a [u8]],
     pub storage_ids: &'a [&'a [u8]],
     pub storage_types: &'a [u8],

@@ -56,12 +56,12 @@ pub enum Refusal {
     Incomplete(usize),
 }
 
-impl Refusal {
-    /// The refusal's number.
-    pub fn number(&self) -> u8
-        ensures { result ≡ number_of self.now }
-    {
-        match self {
+/// The refusal's number.
+impl From<Refusal> for u8 {
+    ghost from_gives = { λ refusal number. number ≡ number_of refusal };
+
+    fn from(refusal: Refusal) -> u8 {
+        match refusal {
             Refusal::ChunkSize => 1,
             Refusal::PacketSize => 2,
             Refusal::Length => 3,

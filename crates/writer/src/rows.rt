@@ -28,7 +28,7 @@ impl<'a> Opening<'a> {
         ensures { RowsRead (rows_in self.entry) list.new.rows.items (is_some result) }
     {
         list.clear();
-        // Goes by the place, which is one in three lists.
+        // Stays by the place, which is one in three lists: a zip of three would name each part twice.
         for i in 0..self.infos.len() {
             let node = read_node(self.row(i))?;
             list.push(&node);

@@ -12,7 +12,7 @@ use crate::refusal::Refusal;
 use crate::state::Writer;
 use chain::link::{Link, LinkLost};
 
-/// One turn of a write.
+/// One turn of a write. Stays an enum: a Result of an Option of a count would not say which of these came.
 #[derive(Clone, Copy)]
 pub enum Step {
     /// Nothing can be done.
@@ -30,7 +30,7 @@ pub enum Step {
 pub struct Written {
     /// How many bytes were taken.
     pub taken: usize,
-    /// Whether a frame was lost, so that the pipeline is broken.
+    /// Whether a frame was lost, so that the pipeline is broken. No error: what was taken counts all the same.
     pub put_lost: bool,
 }
 
