@@ -13,7 +13,7 @@ pub struct HeldPacket {
     pub len: usize,
 }
 
-/// A record for each slot that a store may have. A place is a number below 101: a type for it would be made and taken apart at each call.
+/// A record for each slot that a store may have. A place is a number below theirs: a type for it would be made and taken apart at each call.
 #[derive(Drop)]
 pub struct HeldTable {
     pub records: Vec<HeldPacket>,
@@ -37,7 +37,7 @@ impl HeldTable {
 
     /// One record, lent to be changed.
     pub fn record(&mut self, i: usize) -> &mut HeldPacket
-        requires { i < 101 }
+        requires { i < vec_len self.old.records }
         ensures* follows { sem 𝓛 (follows the_row packet-row self.entry.ghost_name result.ghost_name (λ w. record { records = with_item self.old.records i w; table = self.old.table })) }
         ensures value { result.now ≡ slice_index_or self.old.records.items i result.now }
     {
@@ -46,7 +46,7 @@ impl HeldTable {
 
     /// Notes how many bytes the packet of that slot has.
     pub fn note(&mut self, i: usize, len: usize)
-        requires { i < 101 }
+        requires { i < vec_len self.old.records }
         ensures { sizes_of self.new.records.items ≡ slice_set (sizes_of self.old.records.items) i len }
     {
         self.record(i).len = len;
@@ -54,7 +54,7 @@ impl HeldTable {
 
     /// How many bytes the packet of that slot has.
     pub fn len_at(&self, i: usize) -> usize
-        requires { i < 101 }
+        requires { i < vec_len self.now.records }
         ensures { result ≡ slice_index (sizes_of self.now.records.items) i }
     {
         self.records[i].len

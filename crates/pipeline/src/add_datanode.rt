@@ -1,5 +1,5 @@
 //! A datanode added to a pipeline that lost one: asked for at the namenode, chosen from its list, and given a copy of the block.
-ghost use Rattle.std.specs.Prelude.{◌≡◌};
+ghost use Rattle.std.specs.Prelude.{◌≡◌, vec_capacity};
 ghost use Rattle.pipeline.specs.declared.add_datanode.NoDatanode.TheVariants as no;
 ghost use Rattle.pipeline.specs.Adding.{unchosen, uncopied};
 
@@ -115,6 +115,7 @@ impl<'a, L: Link> Channel<'a, L> {
         ensures acts { Adds L.Link.transfers N.NamenodeProtocol.lists block client_name.now old.now left.now gone.now list.old.rows.items list.new.rows.items (line_at self.old) namenode.old result (line_at self.new) namenode.new }
         ensures same { SameLoans self.old self.new }
         ensures within { Within list.new.rows.items result }
+        ensures capacity { vec_capacity list.new.rows ≡ vec_capacity list.old.rows }
     {
         namenode.get_additional_datanode(block.num_bytes, left, gone)?;
         let token = read_offer(namenode, list).ok_or(NoDatanode::List)?;

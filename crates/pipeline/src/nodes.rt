@@ -8,11 +8,10 @@ use std::alloc::{AllocError, Global};
 /// How many datanodes a pipeline has at most.
 pub const PLACES: usize = 8;
 
-/// Some datanodes, in order: eight at most, for which it has the memory.
+/// Some datanodes, in order, with memory for a whole pipeline at the least.
 #[derive(Drop)]
 pub struct NodeTable {
     pub rows: Vec<Datanode>,
-    ghost few: { vec_len rows ≤ 8 },
     ghost room: { 8 ≤ vec_capacity rows },
 }
 
@@ -39,7 +38,7 @@ impl NodeTable {
     /// One row, to be changed.
     pub fn row(&mut self, i: usize) -> &mut Datanode
         requires { i < vec_len self.old.rows }
-        ensures* follows { sem 𝓛 (follows the_row Node-row self.entry.ghost_name result.ghost_name (λ w. record { rows = with_item self.old.rows i w; few = self.old.few; room = self.old.room })) }
+        ensures* follows { sem 𝓛 (follows the_row Node-row self.entry.ghost_name result.ghost_name (λ w. record { rows = with_item self.old.rows i w; room = self.old.room })) }
         ensures value { result.now ≡ slice_index_or self.old.rows.items i result.now }
     {
         &mut self.rows[i]
@@ -47,23 +46,26 @@ impl NodeTable {
 
     /// One datanode more, behind the others.
     pub fn push(&mut self, node: &Datanode)
-        requires { vec_len self.old.rows < 8 }
-        ensures { self.new.rows.items ≡ self.old.rows.items ++ node.now ∷ [] }
+        requires { vec_len self.old.rows < vec_capacity self.old.rows }
+        ensures items { self.new.rows.items ≡ self.old.rows.items ++ node.now ∷ [] }
+        ensures capacity { vec_capacity self.new.rows ≡ vec_capacity self.old.rows }
     {
         self.rows.push_reserved(*node);
     }
 
     /// No datanode any more. The memory stays.
     pub fn clear(&mut self)
-        ensures { self.new.rows.items ≡ [] }
+        ensures items { self.new.rows.items ≡ [] }
+        ensures capacity { vec_capacity self.new.rows ≡ vec_capacity self.old.rows }
     {
         self.rows.clear();
     }
 
     // Puts a datanode in place of a row, or behind the last one.
     fn put(&mut self, i: usize, node: &Datanode)
-        requires { (i ≤ vec_len self.old.rows) × (i < 8) }
-        ensures { self.new.rows.items ≡ placed self.old.rows.items i node.now }
+        requires { (i ≤ vec_len self.old.rows) × (i < vec_capacity self.old.rows) }
+        ensures items { self.new.rows.items ≡ placed self.old.rows.items i node.now }
+        ensures capacity { vec_capacity self.new.rows ≡ vec_capacity self.old.rows }
     {
         if i < self.rows.len() {
             *self.row(i) = *node;
@@ -74,8 +76,9 @@ impl NodeTable {
 
     /// These datanodes in place of those that the table had, row by row, in the memory that it has.
     pub fn overwrite(&mut self, list: &[Datanode])
-        requires { length list.now ≤ 8 }
-        ensures { self.new.rows.items ≡ list.now }
+        requires { length list.now ≤ vec_capacity self.old.rows }
+        ensures items { self.new.rows.items ≡ list.now }
+        ensures capacity { vec_capacity self.new.rows ≡ vec_capacity self.old.rows }
     {
         for (i, node) in list.iter().enumerate() {
             self.put(i, node);

@@ -1,5 +1,5 @@
 //! The list of datanodes that a namenode holds, read into a table.
-ghost use Rattle.std.specs.Prelude.{◌≡◌, ◌≤◌, length, is_some};
+ghost use Rattle.std.specs.Prelude.{◌≡◌, ◌≤◌, length, is_some, vec_capacity};
 ghost use Rattle.pipeline.specs.Offers.{row_in, NodeRead, RowsRead, OfferRead};
 
 use crate::nodes::{NodeTable, PLACES};
@@ -17,8 +17,9 @@ pub fn read_node(row: Offered<'_>) -> Option<Datanode>
 
 // Puts the datanodes of the list into the table, where all of them are in form.
 fn read_rows<N: NamenodeProtocol>(namenode: &N, list: &mut NodeTable) -> Option<()>
-    requires { length (N.NamenodeProtocol.offer namenode.now).rows ≤ 8 }
-    ensures { RowsRead (N.NamenodeProtocol.offer namenode.now).rows list.new.rows.items (is_some result) }
+    requires { length (N.NamenodeProtocol.offer namenode.now).rows ≤ vec_capacity list.old.rows }
+    ensures rows { RowsRead (N.NamenodeProtocol.offer namenode.now).rows list.new.rows.items (is_some result) }
+    ensures capacity { vec_capacity list.new.rows ≡ vec_capacity list.old.rows }
 {
     list.clear();
     // Stays by the position: a namenode lends its rows one by one, and has no iterator over them.
@@ -32,7 +33,8 @@ fn read_rows<N: NamenodeProtocol>(namenode: &N, list: &mut NodeTable) -> Option<
 /// Reads the list that the namenode holds into `list`, and answers its token: nothing where the list has not one to eight datanodes, or
 /// one of them or the token is not in form.
 pub fn read_offer<N: NamenodeProtocol>(namenode: &N, list: &mut NodeTable) -> Option<Token>
-    ensures { OfferRead (N.NamenodeProtocol.offer namenode.now) list.new.rows.items result }
+    ensures read { OfferRead (N.NamenodeProtocol.offer namenode.now) list.new.rows.items result }
+    ensures capacity { vec_capacity list.new.rows ≡ vec_capacity list.old.rows }
 {
     let count = namenode.offered_len();
     if count < 1 || count > PLACES {

@@ -25,7 +25,8 @@ impl<'a> Opening<'a> {
     pub(crate) fn read_nodes(self, list: &mut NodeTable) -> Option<()>
         requires infos_len_bound { length self.infos.now ≤ 8 }
         requires storage_ids_len { (length self.storage_ids.now ≡ length self.infos.now) × (length self.storage_types.now ≡ length self.infos.now) }
-        ensures { RowsRead (rows_in self.entry) list.new.rows.items (is_some result) }
+        ensures rows { RowsRead (rows_in self.entry) list.new.rows.items (is_some result) }
+        ensures count { length list.new.rows.items ≤ length self.entry.infos.now }
     {
         list.clear();
         // Stays by the place, which is one in three lists: a zip of three would name each part twice.

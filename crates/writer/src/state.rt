@@ -44,5 +44,6 @@ pub struct Writer {
     ghost ends: { waiting + filling ≤ len },
     ghost limit: { (len ≤ terms.block_size) × (terms.block_size < 2 ^ 63) },
     ghost done: { ended state ≡ true → filling ≡ 0 },
+    ghost few: { (vec_len nodes.rows ≤ 8) × (vec_len chosen.rows ≤ 8) },
     ghost widths: { (stamp < 2 ^ 64) × (terms.block_id < 2 ^ 64) },
 }

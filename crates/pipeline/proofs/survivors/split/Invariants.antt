@@ -1,4 +1,4 @@
-use Rattle.std.proofs.Common.{◌≡◌, ◌+◌, ◌≤◌, ◌++◌, length, vec_items, vec_len}
+use Rattle.std.proofs.Common.{◌≡◌, ◌+◌, ◌≤◌, ◌++◌, length, vec_items, vec_len, vec_capacity}
 use Rattle.pipeline.specs.Survivors.{survivors, failed_of}
 use Rattle.pipeline.proofs.survivors.split.Given as goal
 
@@ -10,3 +10,4 @@ invariant-loop-node l =
     (vec_items l.left.rows ++ survivors flags nodes ≡ survivors l.failed.positions l.nodes)
     × (vec_items l.gone.rows ++ failed_of flags nodes ≡ failed_of l.failed.positions l.nodes)
     × (vec_len l.left.rows + length nodes ≤ 8) × (vec_len l.gone.rows + length nodes ≤ 8) × (length nodes ≤ length flags)
+    × (vec_capacity l.left.rows ≡ vec_capacity l.initial.left.rows) × (vec_capacity l.gone.rows ≡ vec_capacity l.initial.gone.rows)

@@ -12,8 +12,12 @@ returns-in_err-node c =
     let rows = rows_in o in
     let h : c.loop-i.i < length rows = omega (arith, c.loop-i-test.true, rows_long o.infos.now o.storage_ids.now o.storage_types.now c.requires.storage_ids_len.0 c.requires.storage_ids_len.1) in
     let x = row_in c.row.result in
-    subst (λ r. RowsRead rows (vec_items c.loop-i.list.rows) (is_some r)) (sym c.from_residual.ensures)
-    (out_of_form rows c.loop-i.i x h c.row.ensures c.loop-i.invariant.1 c.in_err-node.ensures)
+    record {
+      rows =
+          subst (λ r. RowsRead rows (vec_items c.loop-i.list.rows) (is_some r)) (sym c.from_residual.ensures)
+          (out_of_form rows c.loop-i.i x h c.row.ensures c.loop-i.invariant.1 c.in_err-node.ensures);
+      count = omega (arith, c.loop-i.list.rows.ok.0, c.loop-i.invariant.2, c.loop-i-test.true);
+    }
 
 pub loop-i-preserved : goal.loop-i-preserved
 loop-i-preserved c =
@@ -27,7 +31,7 @@ loop-i-preserved c =
     let ds = vec_items c.loop-i.list.rows in
     let d = c.in_ok-node.node in
     let n = c.in_ok-node.ensures in
-    let p = c.push.ensures in (
+    let p = c.push.ensures.items in (
       one_more rows i x h e inv.1 ds (vec_items c.push.new.self.rows) d inv.0 n.1 p,
       goes_on rows i x h e inv.1 n.0,
       omega (arith, ap length p, length_push ds d, inv.2, c.push.new.self.rows.ok.0, c.loop-i.list.rows.ok.0),
@@ -39,4 +43,7 @@ returns c =
     let rows = rows_in o in
     let long = rows_long o.infos.now o.storage_ids.now o.storage_types.now c.requires.storage_ids_len.0 c.requires.storage_ids_len.1 in
     let h : length rows ≤ c.loop-i.i = omega (arith, c.loop-i-test.false, long) in
-    all_read rows c.loop-i.i (vec_items c.loop-i.list.rows) h c.loop-i.invariant.1 c.loop-i.invariant.0
+    record {
+      rows = all_read rows c.loop-i.i (vec_items c.loop-i.list.rows) h c.loop-i.invariant.1 c.loop-i.invariant.0;
+      count = omega (arith, c.loop-i.list.rows.ok.0, c.loop-i.invariant.2, c.loop-i.auto.i-end);
+    }

@@ -23,5 +23,6 @@ invariant_of-self c =
       ends = omega (arith, w.ends);
       limit = w.limit;
       done = w.done;
+      few = w.few;
       widths = w.widths;
     }

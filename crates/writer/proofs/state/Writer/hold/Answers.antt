@@ -25,5 +25,6 @@ invariant_of-self c =
       ends = omega (arith, w.ends);
       limit = w.limit;
       done = (λ d. refl);
+      few = w.few;
       widths = w.widths;
     }
