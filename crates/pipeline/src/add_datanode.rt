@@ -15,7 +15,7 @@ use proto::fixed::Fixed;
 use replace::choice::{NoChoice, choose};
 use std::fmt;
 
-/// Why no datanode could be added.
+/// Why no datanode could be added. One list of causes: who asks for a datanode sees no difference between choosing and copying.
 #[derive(Clone, Copy, Debug, PartialEq, Eq)]
 pub enum NoDatanode {
     /// The namenode refused.

@@ -15,14 +15,14 @@ pub fn read_node(row: Offered<'_>) -> Option<Datanode>
     Datanode::new(row.info, row.storage_id, storage_type)
 }
 
-// Puts the datanodes of the list into the table, where all of them are in form.
+// Puts the datanodes of the list into the table, where all of them are in form. An Option of nothing, since there is one way to fail.
 fn read_rows<N: NamenodeProtocol>(namenode: &N, list: &mut NodeTable) -> Option<()>
     requires { length (N.NamenodeProtocol.offer namenode.now).rows ≤ vec_capacity list.old.rows }
     ensures rows { RowsRead (N.NamenodeProtocol.offer namenode.now).rows list.new.rows.items (is_some result) }
     ensures capacity { vec_capacity list.new.rows ≡ vec_capacity list.old.rows }
 {
     list.clear();
-    // Stays by the position: a namenode lends its rows one by one, and has no iterator over them.
+    // Stays by the position: the interface lends the rows one by one, so that a namenode need not hold a table of them.
     for i in 0..namenode.offered_len() {
         let node = read_node(namenode.offered(i)?)?;
         list.push(&node);

@@ -39,7 +39,8 @@ fn request_for<'a>(setting: Setting<'a>, nodes: &'a [Datanode]) -> WriteBlock<'a
     }
 }
 
-// Writes the request to the front of `request`, sends it once, and judges the response.
+// Writes the request to the front of `request`, sends it once, and judges the response. A function of the parts: of a method that lends its
+// `&mut` fields twice a proof does not know what they hold in the end.
 fn send_set_up<'a, L: Link>(
     link: &mut L,
     nodes: &'a [Datanode],

@@ -10,7 +10,8 @@ use proto::block::ClientOperationHeader;
 use proto::datanode::Datanode;
 use request::transfer_block::TransferBlock;
 
-// Writes the request to the front of `request`, sends it once, and judges the response.
+// Writes the request to the front of `request`, sends it once, and judges the response. A function of the parts: of a method that lends its
+// `&mut` fields twice a proof does not know what they hold in the end.
 fn send_transfer<'a, L: Link>(
     link: &mut L,
     header: ClientOperationHeader<'a>,

@@ -13,6 +13,5 @@ pub(crate) fn write_request<R: Request>(message: &R, out: &mut [u8]) -> usize
     requires { 4096 ≤ length out.old }
     ensures { sent (framed R.Request.code (encode_all (R.Message.fields message.now))) out.old out.new (Some result) }
 {
-    // A buffer of that size is always enough.
-    send(message, out).unwrap_or(0)
+    send(message, out).unwrap()
 }

@@ -1,5 +1,6 @@
 //! What every call looks at first: the writer's state, and the lengths of the four buffers.
-ghost use Rattle.std.specs.Prelude.{◌≡◌};
+ghost use Rattle.std.specs.Prelude.{◌≡◌, ◌&&◌, nat_le};
+ghost use Rattle.packet.specs.Sizes.{frame_capacity_of};
 ghost use Rattle.std.specs.Result.{result_err};
 ghost use Rattle.writer.specs.Views.{view_of};
 ghost use Rattle.writer.specs.Admits.{by_state, by_room, refusal_for, lens_of};
@@ -9,6 +10,7 @@ use crate::state::Writer;
 use crate::state::kind::State;
 use crate::terms::Terms;
 use packet::size::PacketSize;
+use pipeline::write_request::REQUEST_ROOM;
 
 /// The calls that act on an open writer. No function is chosen by it: it says which refusals there are.
 #[derive(Clone, Copy)]
@@ -40,10 +42,19 @@ impl Lens {
             answer: answer.len(),
         }
     }
+
+    /// Whether the frame's buffer holds every frame, and the two others every message.
+    pub(crate) fn suffices(self, size: PacketSize) -> bool
+        ensures { result ≡ nat_le (frame_capacity_of 4 size.chunk size.packet) self.frame && (nat_le 4096 self.request && nat_le 4096 self.answer) }
+    {
+        self.frame >= size.frame_capacity()
+            && self.request >= MESSAGE_LEN
+            && self.answer >= MESSAGE_LEN
+    }
 }
 
 /// So many octets hold every request and every response that is asked for.
-pub const MESSAGE_LEN: usize = 4096;
+pub const MESSAGE_LEN: usize = REQUEST_ROOM;
 
 // Whether the call fits the writer's state.
 fn by_state(state: State, call: Call) -> Result<(), Refusal>
@@ -69,10 +80,7 @@ impl Terms {
         if lens.store != self.store_len {
             return Err(Refusal::Store);
         }
-        if lens.frame < self.size.frame_capacity()
-            || lens.request < MESSAGE_LEN
-            || lens.answer < MESSAGE_LEN
-        {
+        if !lens.suffices(self.size) {
             return Err(Refusal::Buffer);
         }
         Ok(())

@@ -9,7 +9,6 @@ ghost use Rattle.writer.specs.Beating.{is_due, BeatsIf, Beats, Puts as PutsBeat}
 
 use crate::admit::{Call, Lens};
 use crate::cause::Cause;
-use crate::hand::bytes_at;
 use crate::refusal::Refusal;
 use crate::state::Writer;
 use chain::link::{Link, LinkLost};
@@ -56,7 +55,7 @@ impl Writer {
             offset: 0,
             seqno: HEART_BEAT_SEQNO,
             last: false,
-            data: bytes_at(store, 0, 0),
+            data: &[],
         };
         let put = put_packet(link, packet, self.terms.size.chunk_size(), frame);
         self.beaten = time;

@@ -103,6 +103,7 @@ impl Tables {
         self.settle_sized(opening, size, lens)
     }
 
+    // The sizes stand beside the opening that they were accepted of: a struct of both would be made for this one step.
     fn settle_sized(
         &mut self,
         opening: Opening<'_>,

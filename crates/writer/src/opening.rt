@@ -3,7 +3,7 @@ ghost use Rattle.std.specs.Prelude.{◌≡◌};
 ghost use Rattle.std.specs.Result.{result_err};
 ghost use Rattle.writer.specs.Opening.{by_length, by_count, by_buffers, by_texts};
 
-use crate::admit::{Lens, MESSAGE_LEN};
+use crate::admit::Lens;
 use crate::refusal::Refusal;
 use packet::size::PacketSize;
 use proto::form::is_text;
@@ -45,10 +45,7 @@ impl<'a> Opening<'a> {
     pub(crate) fn by_length(self) -> Result<(), Refusal>
         ensures { result_err result ≡ by_length self.entry }
     {
-        if self.block_size < self.initial_len {
-            return Err(Refusal::Length);
-        }
-        if self.block_size >= BLOCK_LIMIT {
+        if self.block_size < self.initial_len || self.block_size >= BLOCK_LIMIT {
             return Err(Refusal::Length);
         }
         Ok(())
@@ -59,10 +56,11 @@ impl<'a> Opening<'a> {
         ensures { result_err result ≡ by_count self.entry }
     {
         let count = self.infos.len();
-        if count < 1 || count > 8 {
-            return Err(Refusal::Nodes);
-        }
-        if self.storage_ids.len() != count || self.storage_types.len() != count {
+        if count < 1
+            || count > 8
+            || self.storage_ids.len() != count
+            || self.storage_types.len() != count
+        {
             return Err(Refusal::Nodes);
         }
         Ok(())
@@ -83,10 +81,7 @@ impl<'a> Opening<'a> {
         if lens.store < 3 * size.capacity() {
             return Err(Refusal::Store);
         }
-        if lens.frame < size.frame_capacity()
-            || lens.request < MESSAGE_LEN
-            || lens.answer < MESSAGE_LEN
-        {
+        if !lens.suffices(size) {
             return Err(Refusal::Buffer);
         }
         Ok(())

@@ -86,7 +86,7 @@ impl Writer {
         ensures { (request answer : List ℕ) → Resumes L.Link.sets L.Link.puts L.Link.transfers N.NamenodeProtocol.lists N.NamenodeProtocol.stamps N.NamenodeProtocol.updates (view_of self.old) store.now time choice self.old.chosen.rows.items set_up.stamp token frame.old link.entry.now namenode.old result (view_of self.new) (record { link = link.exit.now; namenode = namenode.new; frame = frame.new; request = request; answer = answer }) }
     {
         let replayed = set_up.replay(link, self, store, frame);
-        // A match, since the writer is closed where this fails.
+        // A match: after a closure that borrowed the writer, to close it, a proof knows nothing of the writer.
         match replayed.update(namenode, self.len, self.chosen.as_slice()) {
             Ok(
                 Replayed {
@@ -127,7 +127,7 @@ impl Writer {
         ensures same { SameLoans channel.old channel.new }
         ensures acts { (octets : List ℕ) → held token.message ≡ octets → Builds L.Link.sets L.Link.puts L.Link.transfers N.NamenodeProtocol.lists N.NamenodeProtocol.stamps N.NamenodeProtocol.updates (view_of self.old) store.now time choice self.old.chosen.rows.items stamped.stamp octets frame.old (line_at channel.old) namenode.old result (view_of self.new) (record { link = channel.new.link.now; namenode = namenode.new; frame = frame.new; request = channel.new.request.now; answer = channel.new.answer.now }) }
     {
-        // A match, since the writer is closed where this fails.
+        // A match: after a closure that borrowed the writer, to close it, a proof knows nothing of the writer.
         match stamped.set_up(channel, self, &token) {
             Ok(set_up) => {
                 self.replay_on(
@@ -163,7 +163,7 @@ impl Writer {
         ensures acts { AsksStamp L.Link.sets L.Link.puts L.Link.transfers N.NamenodeProtocol.lists N.NamenodeProtocol.stamps N.NamenodeProtocol.updates (view_of self.old) store.now time choice self.old.chosen.rows.items frame.old (line_at channel.old) namenode.old result (view_of self.new) (record { link = channel.new.link.now; namenode = namenode.new; frame = frame.new; request = channel.new.request.now; answer = channel.new.answer.now }) }
     {
         let counted = Counted::of(self);
-        // A match, since the writer is closed where this fails.
+        // A match: after a closure that borrowed the writer, to close it, a proof knows nothing of the writer.
         match counted.stamp(namenode, self.len) {
             Ok((stamped, token)) => self.build(
                 stamped, token, choice, channel, namenode, store, frame, time,
@@ -190,7 +190,7 @@ impl Writer {
         ensures same { SameLoans channel.old channel.new }
         ensures acts { Rebuilds L.Link.sets L.Link.puts L.Link.transfers N.NamenodeProtocol.lists N.NamenodeProtocol.stamps N.NamenodeProtocol.updates (view_of self.old) store.now time (record { link = channel.old.link.now; namenode = namenode.old; frame = frame.old; request = channel.old.request.now; answer = channel.old.answer.now }) result (view_of self.new) (record { link = channel.new.link.now; namenode = namenode.new; frame = frame.new; request = channel.new.request.now; answer = channel.new.answer.now }) }
     {
-        // A match, since the writer is closed where this fails.
+        // A match: after a closure that borrowed the writer, to close it, a proof knows nothing of the writer.
         match self.choose_pipeline(channel, namenode) {
             Ok(choice) => self.rebuild(choice, channel, namenode, store, frame, time),
             Err(why) => Err(self.close_by(Refusal::Replacement(why))),
@@ -211,7 +211,7 @@ impl Writer {
         ensures same { SameLoans channel.old channel.new }
         ensures acts { Survived L.Link.sets L.Link.puts L.Link.transfers N.NamenodeProtocol.lists N.NamenodeProtocol.stamps N.NamenodeProtocol.updates (beyond (view_of self.old)) (view_of self.old) store.now time (record { link = channel.old.link.now; namenode = namenode.old; frame = frame.old; request = channel.old.request.now; answer = channel.old.answer.now }) result (view_of self.new) (record { link = channel.new.link.now; namenode = namenode.new; frame = frame.new; request = channel.new.request.now; answer = channel.new.answer.now }) }
     {
-        // A match, since the writer is closed where this fails.
+        // A match: after a closure that borrowed the writer, to close it, a proof knows nothing of the writer.
         match self.survive() {
             Ok(()) => self.choose_and_rebuild(channel, namenode, store, frame, time),
             Err(refusal) => Err(self.close_by(refusal)),

@@ -21,7 +21,7 @@ impl<'a> Opening<'a> {
         }
     }
 
-    // Puts the datanodes into the table, where all of them are in form.
+    // Puts the datanodes into the table, where all of them are in form. An Option of nothing, since there is one way to fail.
     pub(crate) fn read_nodes(self, list: &mut NodeTable) -> Option<()>
         requires infos_len_bound { length self.infos.now ≤ 8 }
         requires storage_ids_len { (length self.storage_ids.now ≡ length self.infos.now) × (length self.storage_types.now ≡ length self.infos.now) }
@@ -29,7 +29,7 @@ impl<'a> Opening<'a> {
         ensures count { length list.new.rows.items ≤ length self.entry.infos.now }
     {
         list.clear();
-        // Stays by the place, which is one in three lists: a zip of three would name each part twice.
+        // Stays by the place: the three lists come from outside, and one place serves all.
         for i in 0..self.infos.len() {
             let node = read_node(self.row(i))?;
             list.push(&node);

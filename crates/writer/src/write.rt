@@ -78,7 +78,7 @@ impl Writer {
     {
         let mut taken = 0;
         'turns: loop {
-            match self.turn(link, store, frame, &bytes[taken..bytes.len()]) {
+            match self.turn(link, store, frame, &bytes[taken..]) {
                 Step::Stopped => {
                     return Written {
                         taken,
