@@ -3,13 +3,14 @@ ghost use Rattle.std.specs.Prelude.{◌≡◌, [], ◌∷◌};
 ghost use Rattle.wire.specs.Fields.{varint};
 ghost use Rattle.ack.specs.Written.{zag, answer_fields, answered, ReadBack};
 
-use wire::encode::{Each, FieldOf, Message, OneField, Then, Uint};
+use wire::encode::{Each, Message, OneField, Then, Uint};
+use wire::row::{ByField, RowField};
 
 // A reply, not packed, as datanodes write it.
 #[derive(Clone, Copy)]
 struct Reply;
 
-impl FieldOf<u8> for Reply {
+impl RowField<u8> for Reply {
     ghost field = { λ status. varint 2 status };
 
     fn field_of(row: &u8) -> OneField<'_> {
@@ -33,6 +34,7 @@ fn zigzagged(seqno: u64) -> u64
 
 /// Writes the answer to the packet of that number at the front of `out`, with a reply for each node, of which there are at most eight.
 /// Where there are more, or `out` is too short, it stays as it was.
+// Answers a place: nothing is allocated, and the contract speaks of the whole buffer, in which the answer ends there.
 // Its replies stay numbers: a datanode may answer a status that datatransfer.proto does not list.
 pub fn write_ack(out: &mut [u8], seqno: u64, replies: &[u8]) -> Option<usize>
     ensures { answered seqno replies.now out.old out.new result }
@@ -47,7 +49,7 @@ pub fn write_ack(out: &mut [u8], seqno: u64, replies: &[u8]) -> Option<usize>
         },
         Each {
             rows: replies,
-            by: Reply,
+            by: ByField(Reply),
         },
     );
     let end = answer.encoded_len();

@@ -66,6 +66,7 @@ fn put_frame(out: &mut [u8], packet: WritePacket<'_>, chunk_size: u32, sums: usi
 
 /// Writes the frame of `packet` to the front of `buf`, with the sums of its chunks, and says where it ends.
 /// `None` says that it does not fit, there or in its lengths, and that `buf` is as it was.
+// Answers a place: nothing is allocated, and the contract speaks of the whole buffer, in which the frame ends there.
 pub fn write_frame(buf: &mut [u8], packet: WritePacket<'_>, chunk_size: u32) -> Option<usize>
     ensures value { result ≡ end_in (summed chunk_size packet.entry) buf.old }
     ensures after { buf.new ≡ over (summed chunk_size packet.entry) buf.old }

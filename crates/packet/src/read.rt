@@ -15,7 +15,8 @@ pub struct Frame<'a> {
     pub sums: &'a [u8],
 }
 
-// The octets from `at` on, as many as the type says.
+// The octets from `at` on, as many as the type says. No public helper for all crates: it could not ask that the octets are there, and
+// would answer an Option that is excluded here.
 fn array_at<const N: usize>(bytes: &[u8], at: usize) -> &[u8; N]
     requires { at + N ≤ length bytes.now }
     ensures { result.now ≡ take N (drop at bytes.now) }

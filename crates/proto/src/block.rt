@@ -14,7 +14,7 @@ pub struct ExtendedBlock {
     pub num_bytes: u64,
 }
 
-// Stays a macro, as `header_parts`: the parts borrow from the block, and as a result their type would have to be written out.
+// Stays a macro, as `header_parts`: `-> impl Message` gets no proof, and as a named type the parts would have to be written out in full.
 macro_rules! block_parts {
     ($block:expr) => {
         Then(

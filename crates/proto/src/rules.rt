@@ -1,6 +1,8 @@
 //! The fields of the messages that come from outside.
 use crate::form::{Kind, Rule};
 
+// Tables of constants: each row is a field of its own, with its tag, its kind and whether it has to be there.
+
 /// `DatanodeIDProto`: ipAddr, hostName, datanodeUuid, xferPort, infoPort, ipcPort, infoSecurePort.
 pub(crate) const DATANODE_ID: [Rule; 7] = [
     Rule {

@@ -6,6 +6,7 @@ use crate::number::{LineError, Mark, Slot, read_slot};
 use crate::reading::Reading;
 use std::array;
 
+// A table of numbers, each with a limit and a mark of its own.
 const TIME: Slot = Slot {
     limit: 0xffff_ffff_ffff_ffff,
     then: Mark::Semicolon,

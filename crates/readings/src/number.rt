@@ -80,6 +80,7 @@ impl fmt::Display for LineError {
 }
 
 /// The number whose digits begin at `at`, and the place past them.
+// Goes by places, as the two below: a fault is told by its column.
 pub(crate) fn number(line: &[u8], at: usize, limit: u64) -> Result<(u64, usize), LineError>
     requires { at ≤ length line.now }
     ensures value { result ≡ number_at limit at line.now }

@@ -6,7 +6,8 @@ ghost use Rattle.readings.specs.Record.{octets_of, reading_of};
 use crate::reading::{RECORD_LEN, Reading};
 use std::array;
 
-// The octets from `at` on, as many as the type says.
+// The octets from `at` on, as many as the type says. No public helper for all crates: it could not ask that the octets are there, and
+// would answer an Option that is excluded here.
 fn array_at<const N: usize>(octets: &[u8; RECORD_LEN], at: usize) -> &[u8; N]
     requires { at + N ≤ 52 }
     ensures { result.now ≡ take N (drop at octets.now) }

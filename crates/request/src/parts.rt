@@ -8,6 +8,7 @@ use crate::transfer_block::TransferBlock;
 use crate::write_block::WriteBlock;
 use proto::datanode::Datanode;
 use wire::encode::{Bytes, Each, Message, Nested, Then, Uint};
+use wire::row::ByField;
 
 // `stage` to `requestedChecksum` of a pipeline to be set up.
 #[derive(Clone, Copy)]
@@ -19,7 +20,7 @@ struct Construction {
     latest_stamp: u64,
 }
 
-// Stays a macro, as those below: the parts borrow from the request, and as a result their type would have to be written out.
+// Stays a macro, as those below: `-> impl Message` gets no proof, and as a named type the parts would have to be written out in full.
 macro_rules! construction_parts {
     ($it:expr) => {
         Then(
@@ -59,10 +60,10 @@ macro_rules! storage_parts {
         Then(
             Uint { tag: 11, value: u64::from($it.first.storage_type()) },
             Then(
-                Each { rows: $it.targets, by: TargetStorageType },
+                Each { rows: $it.targets, by: ByField(TargetStorageType) },
                 Then(
                     Bytes { tag: 16, bytes: $it.first.storage_id() },
-                    Each { rows: $it.targets, by: TargetStorageId },
+                    Each { rows: $it.targets, by: ByField(TargetStorageId) },
                 ),
             ),
         )
@@ -100,7 +101,7 @@ macro_rules! write_parts {
         Then(
             Nested { tag: 1, message: $request.header },
             Then(
-                Each { rows: $request.targets, by: TargetInfo },
+                Each { rows: $request.targets, by: ByField(TargetInfo) },
                 Then(
                     $request.construction(),
                     Then(

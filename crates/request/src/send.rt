@@ -23,6 +23,7 @@ pub trait Request: Message {
         ensures { result ≡ code };
 
     /// The message's length, which is such that a buffer of 4,096 octets holds every request.
+    // Beside `encoded_len`, with a body for each: no law of a trait is made for a type with a lifetime, so the bound is a contract here.
     fn message_len(&self) -> usize
         ensures value { result ≡ length (encode_all (Self.Message.fields self.now)) }
         ensures bound { result ≤ 3728 };
@@ -30,6 +31,7 @@ pub trait Request: Message {
 
 /// Writes a request at the front of `out`: the version, the operation's code, and the message after its length. Where `out` is too short
 /// it stays as it was.
+// Answers a place: nothing is allocated, and the contract speaks of the whole buffer, in which the request ends there.
 pub fn send<R: Request>(request: &R, out: &mut [u8]) -> Option<usize>
     ensures written { sent (framed R.Request.code (encode_all (R.Message.fields request.now))) out.old out.new result }
     ensures suffices { 4096 ≤ length out.old → is_some result ≡ true }

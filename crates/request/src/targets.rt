@@ -4,7 +4,8 @@ ghost use Rattle.wire.specs.Fields.{varint, part};
 ghost use Rattle.proto.specs.Messages.{held, info_of};
 
 use proto::datanode::Datanode;
-use wire::encode::{Bytes, FieldOf, OneField, Uint};
+use wire::encode::{Bytes, OneField, Uint};
+use wire::row::RowField;
 
 // An impl for each: they differ in tag, kind and what is read of a datanode, and one for all would say each of these in its place.
 
@@ -12,7 +13,7 @@ use wire::encode::{Bytes, FieldOf, OneField, Uint};
 #[derive(Clone, Copy)]
 pub struct TargetInfo;
 
-impl FieldOf<Datanode> for TargetInfo {
+impl RowField<Datanode> for TargetInfo {
     ghost field = { λ d. part 2 (info_of d) };
 
     fn field_of(row: &Datanode) -> OneField<'_> {
@@ -27,7 +28,7 @@ impl FieldOf<Datanode> for TargetInfo {
 #[derive(Clone, Copy)]
 pub struct TargetStorageType;
 
-impl FieldOf<Datanode> for TargetStorageType {
+impl RowField<Datanode> for TargetStorageType {
     ghost field = { λ d. varint 12 d.storage_type };
 
     fn field_of(row: &Datanode) -> OneField<'_> {
@@ -42,7 +43,7 @@ impl FieldOf<Datanode> for TargetStorageType {
 #[derive(Clone, Copy)]
 pub struct TargetStorageId;
 
-impl FieldOf<Datanode> for TargetStorageId {
+impl RowField<Datanode> for TargetStorageId {
     ghost field = { λ d. part 17 (held d.storage_id) };
 
     fn field_of(row: &Datanode) -> OneField<'_> {

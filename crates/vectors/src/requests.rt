@@ -43,15 +43,13 @@ pub fn node_of(heap: Global, word: &str) -> Result<Datanode, LineError> {
 /// Whether the request is written as these octets.
 pub fn is_sent_as<R: Request>(request: &R, octets: &[u8]) -> bool {
     let mut buf = [0u8; 4096];
-    match send(request, &mut buf) {
-        Some(end) => end <= 4096 && &buf[..end] == octets,
-        None => false,
-    }
+    send(request, &mut buf).is_some_and(|end| end <= 4096 && &buf[..end] == octets)
 }
 
 /// Datanodes, a word for each.
 pub fn nodes_of(heap: Global, words: &[&str]) -> Result<Vec<Datanode>, LineError> {
     let mut nodes = Vec::new(heap);
+    // A loop: each word may fail, by an error of its own.
     for word in words {
         nodes.push(node_of(heap, word)?)?;
     }

@@ -32,7 +32,8 @@ fn put_pair(out: &mut [u8], first: &[u8], second: &[u8])
     out[middle..size].copy_from_slice(second);
 }
 
-// A key: the tag, and the wire type in the lowest three bits, which stays a number: nothing but keys has it.
+// A key: the tag, and the wire type in the lowest three bits. An enum would be no plainer: each call names the type beside the tag, as
+// the wire format does, and its numbers 0, 1, 2 and 5 stand so in the definition of a key.
 fn key_len(tag: u32, wire_type: u64) -> usize
     requires { wire_type < 8 }
     ensures value { result ≡ length (key tag wire_type) }
@@ -209,8 +210,13 @@ impl<'a> Message for OneField<'a> {
 pub trait FieldOf<T> {
     ghost field: { T → WireField };
 
-    fn field_of(row: &T) -> OneField<'_>
-        ensures { one_field result ≡ field row.now };
+    fn field_len(row: &T) -> usize
+        requires { length (encode_all (field row.now ∷ [])) < 2 ^ 64 }
+        ensures { result ≡ length (encode_all (field row.now ∷ [])) };
+
+    fn put_field(row: &T, out: &mut [u8])
+        requires { length out.old ≡ length (encode_all (field row.now ∷ [])) }
+        ensures { out.new ≡ encode_all (field row.now ∷ []) };
 }
 
 /// A repeated field: one for each row, in the order of the rows.
@@ -227,17 +233,17 @@ impl<'a, T, F: FieldOf<T>> Message for Each<'a, T, F> {
         let mut size = 0;
         // Stays a loop: that each field is within the message is known row by row, and a chain's `sum` asks for it beforehand.
         for row in self.rows {
-            size += F::field_of(row).encoded_len();
+            size += F::field_len(row);
         }
         size
     }
 
     fn encode(&self, out: &mut [u8]) {
+        // A running place: each row's octets have a length of their own, and no iterator of the library cuts a buffer so.
         let mut at = 0;
         for row in self.rows {
-            let field = F::field_of(row);
-            let next = at + field.encoded_len();
-            field.encode(&mut out[at..next]);
+            let next = at + F::field_len(row);
+            F::put_field(row, &mut out[at..next]);
             at = next;
         }
     }

@@ -6,6 +6,8 @@ ghost use Rattle.wire.specs.Read.{is_tag, fixed_at, read_field, and_then, seen, 
 ghost use Rattle.wire.specs.Octets.{from_little};
 
 use crate::varint::read_varint;
+use std::error::Error;
+use std::fmt;
 
 /// What can be wrong with a field. Of several, the first of this list is told.
 #[derive(Clone, Copy, Debug, PartialEq, Eq)]
@@ -27,7 +29,31 @@ pub struct DecodeError {
     pub fault: Fault,
 }
 
+impl fmt::Display for Fault {
+    fn fmt<W: fmt::Write>(&self, f: &mut fmt::Formatter<W>) -> fmt::Result {
+        match self {
+            Fault::Varint => write!(f, "a varint is too long"),
+            Fault::End => write!(f, "the message ends inside a field"),
+            Fault::Key => write!(f, "a tag is out of range"),
+            Fault::WireType => write!(f, "a wire type does not fit"),
+        }
+    }
+}
+
+impl Error for Fault {}
+
+impl fmt::Display for DecodeError {
+    fn fmt<W: fmt::Write>(&self, f: &mut fmt::Formatter<W>) -> fmt::Result {
+        let place = self.place;
+        let fault = self.fault;
+        write!(f, "octet {place}: {fault}")
+    }
+}
+
+impl Error for DecodeError {}
+
 /// A field of a message. `place` is where its key begins.
+// `tag` and `place` stand in each variant: the project wants an enum of wire fields, each with its own.
 #[derive(Clone, Copy)]
 pub enum Field<'a> {
     Varint {
@@ -77,7 +103,7 @@ impl Field<'_> {
     }
 }
 
-// The `N` octets at `at`, and the place past them.
+// The `N` octets at `at`, and the place past them. No helper is shared with `array_at` of other crates: this one may find too few octets.
 fn fixed<const N: usize>(input: &[u8], at: usize) -> Result<([u8; N], usize), Fault>
     ensures value { and_then result (λ x. Ok (from_little x.0, x.1)) ≡ fixed_at N at input.now }
     ensures within { IfOk result (λ x. (at + N ≡ x.1) × (x.1 ≤ length input.now)) }

@@ -10,6 +10,7 @@ pub mod encode;
 pub mod field;
 pub mod fields;
 pub mod find;
+pub mod row;
 pub mod varint;
 
 /// A field is read back as it was written, wherever it stands.

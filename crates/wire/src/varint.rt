@@ -70,7 +70,8 @@ pub fn read_varint(input: &[u8], at: usize) -> Result<(u64, usize), Fault>
     Err(Fault::End)
 }
 
-/// A varint as it is written: the first `len` of `octets`. Stays a buffer with its length: nothing here allocates.
+/// A varint as it is written: the first `len` of `octets`.
+// Stays a buffer with its length: it is Copy and allocates nothing, and contracts name its length and its octets.
 #[derive(Clone, Copy)]
 pub struct EncodedVarint {
     octets: [u8; 10],
@@ -80,6 +81,7 @@ pub struct EncodedVarint {
 
 impl EncodedVarint {
     /// The shortest varint of a value.
+    // Not `From`: a maker with a name says that, of the varints of a value, it is the shortest.
     pub fn of(value: u64) -> EncodedVarint
         ensures value { take result.len result.octets ≡ varint_bytes value }
         ensures size { result.len ≡ length (varint_bytes value) }

@@ -4,6 +4,8 @@ ghost use Rattle.packet.specs.Accepted.{settings, settings_of};
 ghost use Rattle.packet.specs.Sizes.{capacity_of, first_capacity_of, frame_capacity_of};
 
 use crate::size::PacketSize;
+use std::error::Error;
+use std::fmt;
 
 /// The octets kept for the lengths and the header of a frame.
 pub const MAX_PACKET_HEADER_SIZE: u32 = 33;
@@ -24,8 +26,20 @@ pub enum SizeError {
     Packet,
 }
 
+impl fmt::Display for SizeError {
+    fn fmt<W: fmt::Write>(&self, f: &mut fmt::Formatter<W>) -> fmt::Result {
+        match self {
+            SizeError::Chunk => write!(f, "the chunk size is out of range"),
+            SizeError::Packet => write!(f, "the packet size is out of range"),
+        }
+    }
+}
+
+impl Error for SizeError {}
+
 impl PacketSize {
     /// Accepts the two sizes, or says which is refused. A packet size of 0 leaves it open: a packet then has one chunk.
+    // No Option for the 0: it is HDFS's own way to leave the size open.
     pub fn new(chunk_size: u32, packet_size: u32) -> Result<PacketSize, SizeError>
         ensures { settings result ≡ settings_of 4 chunk_size packet_size }
     {
