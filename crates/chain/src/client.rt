@@ -1,7 +1,9 @@
 //! The least client of a link: a frame sent and an answer asked for, each with the act that came.
 ghost use Rattle.chain.specs.Client.{Exchanged};
 
-use crate::link::{Link, LinkLost};
+use crate::link::Link;
+use std::error::Error;
+use std::fmt;
 
 /// Why an exchange came to nothing.
 #[derive(Clone, Copy, Debug, PartialEq, Eq)]
@@ -11,6 +13,17 @@ pub enum ExchangeError {
     /// The frame was taken, and then the link was lost.
     Lost,
 }
+
+impl fmt::Display for ExchangeError {
+    fn fmt<W: fmt::Write>(&self, f: &mut fmt::Formatter<W>) -> fmt::Result {
+        match self {
+            Self::Unsent => write!(f, "the frame was lost"),
+            Self::Lost => write!(f, "the link was lost after the frame"),
+        }
+    }
+}
+
+impl Error for ExchangeError {}
 
 /// Sends a frame, and where it was taken asks for an answer and tells how many octets it has, if one has come.
 pub fn put_then_next<L: Link>(

@@ -5,6 +5,7 @@ ghost use Rattle.proto.specs.declared.datanode.Datanode.{Datanode};
 ghost use Rattle.chain.specs.Acts.{Came, Replied, Answered};
 
 use proto::datanode::Datanode;
+use std::error::Error;
 use std::fmt;
 
 /// A link is lost, or what was sent on it, or what came and found no room.
@@ -17,6 +18,9 @@ impl fmt::Display for LinkLost {
     }
 }
 
+impl Error for LinkLost {}
+
+// An answer's length is told beside the buffer that is lent for it: nothing is allocated, and the contracts speak of the whole buffer.
 pub trait Link: Sized {
     /// From one state to another: the datanode connected to, the request, the least count, and the response if one came.
     ghost sets: { Self → Datanode → List ℕ → ℕ → Option (List ℕ) → Self → Type 0 };

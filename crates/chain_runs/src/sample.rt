@@ -20,11 +20,11 @@ pub fn node() -> Result<Datanode, Fail> {
 
 /// A request for a pipeline of one node and `others` more, over chunks of four bytes.
 pub fn request(others: usize, out: &mut [u8]) -> Result<usize, Fail> {
+    if others > 7 {
+        return Err(Fail::new("a pipeline has at most eight nodes"));
+    }
     let node = node()?;
-    let all = [node; 7];
-    let targets = all
-        .get(0..others)
-        .ok_or("a pipeline has at most eight nodes")?;
+    let targets = [node; 7];
     let token = Token::new(TOKEN).ok_or("the token is not in form")?;
     let name = Fixed::try_from(b"name".as_slice()).map_err(|_| Fail::new("the text is too long"))?;
     let block = ExtendedBlock {
@@ -33,28 +33,15 @@ pub fn request(others: usize, out: &mut [u8]) -> Result<usize, Fail> {
         generation_stamp: 1001,
         num_bytes: 0,
     };
-    let header = ClientOperationHeader {
-        block,
-        token: &token,
-        client_name: &name,
-    };
-    write_request(header, &node, targets, out)
-}
-
-fn write_request<'a>(
-    header: ClientOperationHeader<'a>,
-    first: &'a Datanode,
-    targets: &'a [Datanode],
-    out: &mut [u8],
-) -> Result<usize, Fail> {
-    if targets.len() > 7 {
-        return Err(Fail::new("a pipeline has at most eight nodes"));
-    }
     let request = WriteBlock {
-        header,
+        header: ClientOperationHeader {
+            block,
+            token: &token,
+            client_name: &name,
+        },
         stage: Stage::SetupCreate,
-        first,
-        targets,
+        first: &node,
+        targets: &targets[0..others],
         min_bytes: 0,
         max_bytes: 0,
         latest_stamp: 1001,

@@ -3,6 +3,7 @@ ghost use Rattle.std.specs.Prelude.{◌≡◌, ℕ, Bool, List, length, Option, 
 ghost use Rattle.namenode.specs.Entries.{Entry, Ask, Offer, Lists, Stamps, entry_for, row_at, row_of};
 
 use proto::datanode::Datanode;
+use std::error::Error;
 use std::fmt;
 
 /// The namenode refused.
@@ -14,6 +15,8 @@ impl fmt::Display for Refused {
         write!(f, "the namenode refused")
     }
 }
+
+impl Error for Refused {}
 
 /// A datanode as the namenode hands it out. Whether it is in form is for the writer to look at, so its storage's type is any number.
 #[derive(Clone, Copy)]

@@ -66,7 +66,7 @@ impl MemoryNamenode<SpareDatanodes> {
     }
 }
 
-// A datanode as it is handed out.
+// A datanode as it is handed out. Stays a function: neither `From` nor `Offered` is of this crate.
 fn hand_out(node: &Datanode) -> Offered<'_>
     ensures { row_of (Some result) ≡ Some (row_for node.now) }
 {

@@ -22,6 +22,7 @@ use take::take_lines;
 
 fn run(rt: &HostRuntime) -> anyhow::Result<()> {
     let options = Options::from_args(rt)?;
+    // Stays `map_err`: with `context` the cause would be printed too.
     let size = PacketSize::new(options.chunk, options.packet).map_err(|_| anyhow!(
         "these chunk and packet sizes do not go together"
     ))?;
@@ -30,11 +31,11 @@ fn run(rt: &HostRuntime) -> anyhow::Result<()> {
     let mut block = Vec::new(rt.alloc());
     take_lines(rt, text.as_slice(), options.block, &mut block)?;
     send_block(rt, size, block.as_slice())?;
-    keep_block(rt, size, block.as_slice(), options.spool.as_str())?;
-    if options.nodes == 0 {
-        return Ok(());
+    keep_block(rt, size, block.as_slice(), options.spool.as_deref())?;
+    match options.nodes {
+        Some(nodes) => mirror_block(rt, size, block.as_slice(), nodes),
+        None => Ok(()),
     }
-    mirror_block(rt, size, block.as_slice(), options.nodes)
 }
 
 fn main(rt: HostRuntime) -> anyhow::Result<()> {

@@ -1,5 +1,5 @@
 //! The block on a bench of several nodes, a replica each, and what each of them holds.
-use crate::store::{ANSWER_LEN, set_up, store_block};
+use crate::store::{set_up, store_block};
 use bench::state::Bench;
 use packet::size::PacketSize;
 
@@ -24,15 +24,9 @@ pub fn mirror_block(
 ) -> anyhow::Result<()> {
     let room = Vec::with_capacity(rt.alloc(), block.len())?;
     let mut bench = Bench::over(rt.alloc(), room)?;
-    let status = set_up(&mut bench, nodes, size.chunk_size())?;
-    println!(rt; "bench of {nodes} nodes: set up with status {status}")?;
-    let mut buf = vec![in rt.alloc(); 0u8; size.frame_capacity()]?;
-    let mut answer = [0u8; ANSWER_LEN];
-    let tally = store_block(&mut bench, size, block, buf.as_mut_slice(), &mut answer)?;
-    let put = tally.put;
-    let confirmed = tally.confirmed;
-    let pending = bench.pending();
-    println!(rt; "frames put {put}, answers confirmed {confirmed}, packets pending {pending}")?;
+    set_up(&mut bench, nodes, size.chunk_size())?;
+    println!(rt; "bench of {nodes} nodes: set up with status 0")?;
+    store_block(rt, &mut bench, size, block)?.show(rt, bench.pending())?;
     let len = bench.kept().len();
     let same = bench.kept() == block;
     println!(rt; "node 1 keeps {len} bytes, the block's bytes {same}")?;

@@ -1,6 +1,5 @@
 //! The options of the command line.
 use anyhow::{bail, ensure};
-use std::alloc::Global;
 use std::env;
 
 /// The sizes that a block is written with, and the file for the bytes that were kept.
@@ -12,20 +11,20 @@ pub struct Options {
     pub packet: u32,
     /// How many bytes a block may have.
     pub block: u64,
-    /// How many nodes the bench has; 0 where none is asked for.
-    pub nodes: usize,
-    /// The file's name; empty where no file is asked for.
-    pub spool: String,
+    /// How many nodes the bench has, where one is asked for: `--nodes 0` asks for none.
+    pub nodes: Option<usize>,
+    /// The file's name, where one is asked for: an empty name asks for none.
+    pub spool: Option<String>,
 }
 
 impl Options {
-    fn new(heap: Global) -> Self {
+    fn new() -> Self {
         Options {
             chunk: 512,
             packet: 65_536,
             block: 134_217_728,
-            nodes: 3,
-            spool: String::new(heap),
+            nodes: Some(3),
+            spool: None,
         }
     }
 
@@ -34,8 +33,10 @@ impl Options {
             "--chunk" => self.chunk = value.as_str().parse::<u32>()?,
             "--packet" => self.packet = value.as_str().parse::<u32>()?,
             "--block" => self.block = value.as_str().parse::<u64>()?,
-            "--nodes" => self.nodes = value.as_str().parse::<usize>()?,
-            "--spool" => self.spool = value,
+            "--nodes" => {
+                self.nodes = Some(value.as_str().parse::<usize>()?).filter(|nodes| *nodes > 0)
+            }
+            "--spool" => self.spool = Some(value).filter(|name| !name.is_empty()),
             _ => bail!(
                 "the options are --chunk N, --packet N, --block N, --nodes N and --spool FILE"
             ),
@@ -45,7 +46,7 @@ impl Options {
 
     /// The options as the command line has them, each a name with a value behind it.
     pub fn from_args(rt: &HostRuntime) -> anyhow::Result<Options> {
-        let mut options = Options::new(rt.alloc());
+        let mut options = Options::new();
         let mut name: Option<String> = None;
         for word in env::args(rt)?.skip(1) {
             match name.take() {

@@ -11,13 +11,13 @@ use sending::ask::ask;
 use sending::send::send_packet;
 
 /// So many octets hold every answer of a chain of eight nodes.
-pub const ANSWER_LEN: usize = 64;
+const ANSWER_LEN: usize = 64;
 
 /// How many frames were put, and how many packets were confirmed, each in its turn.
 #[derive(Clone, Copy)]
 pub struct Tally {
-    pub put: u64,
-    pub confirmed: u64,
+    put: u64,
+    confirmed: u64,
 }
 
 impl Tally {
@@ -36,10 +36,17 @@ impl Tally {
             Some(_) => Err(anyhow!("an answer confirms no packet")),
         }
     }
+
+    /// Tells what was counted, and how many packets are still pending.
+    pub fn show(self, rt: &HostRuntime, pending: usize) -> anyhow::Result<()> {
+        let Tally { put, confirmed } = self;
+        println!(rt; "frames put {put}, answers confirmed {confirmed}, packets pending {pending}")?;
+        Ok(())
+    }
 }
 
-/// Sets the chain up for a new block on as many datanodes, and answers the status it gave.
-pub fn set_up<L: Link>(link: &mut L, nodes: usize, chunk_size: u32) -> anyhow::Result<u32> {
+/// Sets the chain up for a new block on as many datanodes. Another status than 0 is an error.
+pub fn set_up<L: Link>(link: &mut L, nodes: usize, chunk_size: u32) -> anyhow::Result<()> {
     let node = node()?;
     let mut request = [0u8; REQUEST_LEN];
     let len = write_request(&node, nodes, chunk_size, &mut request)?;
@@ -47,6 +54,7 @@ pub fn set_up<L: Link>(link: &mut L, nodes: usize, chunk_size: u32) -> anyhow::R
         .get(0..len)
         .context("the request is longer than its buffer")?;
     let mut answer = [0u8; ANSWER_LEN];
+    // Each `map_err` stays: with `context` the cause would be printed too.
     let len = link
         .set_up(&node, request, 0, &mut answer)
         .map_err(|_| anyhow!("the set up was lost"))?;
@@ -57,17 +65,18 @@ pub fn set_up<L: Link>(link: &mut L, nodes: usize, chunk_size: u32) -> anyhow::R
         "the response cannot be read"
     ))?;
     ensure!(response.is_good(), "the set up was refused");
-    Ok(0)
+    Ok(())
 }
 
 /// Sends the block's packets and the empty last one, asks once for an answer after each, and at the end until none comes.
 pub fn store_block<L: Link>(
+    rt: &HostRuntime,
     link: &mut L,
     size: PacketSize,
     block: &[u8],
-    buf: &mut [u8],
-    answer: &mut [u8],
 ) -> anyhow::Result<Tally> {
+    let mut buf = vec![in rt.alloc(); 0u8; size.frame_capacity()]?;
+    let mut answer = [0u8; ANSWER_LEN];
     let mut tally = Tally {
         put: 0,
         confirmed: 0,
@@ -75,13 +84,19 @@ pub fn store_block<L: Link>(
     let capacity = size.capacity();
     let count = packet_count(block, capacity);
     for packet in (0..=count).map(|k| packet_at(block, capacity, k)) {
-        let heard = send_packet(link, packet, size.chunk_size(), buf, answer)?;
+        let heard = send_packet(
+            link,
+            packet,
+            size.chunk_size(),
+            buf.as_mut_slice(),
+            &mut answer,
+        )?;
         tally.put = tally.put.saturating_add(1);
         tally.hear(heard)?;
     }
     // Stays a count: a link that has an answer each time would never let a `while` end.
     for _ in 0..=count {
-        if !tally.hear(ask(link, answer)?)? {
+        if !tally.hear(ask(link, &mut answer)?)? {
             break;
         }
     }

@@ -5,7 +5,7 @@ ghost use Rattle.std.specs.Iterator.{at_most};
 use readings::reading::{RECORD_LEN, Reading};
 use recording::lines::line_at;
 
-// The lines of a text that are still to come. A newline at the end begins no line.
+// The lines of a text that are still to come. A newline at the end begins no line; the library's `split` would give an empty one there.
 #[derive(Drop)]
 struct Lines<'a>(&'a [u8]);
 

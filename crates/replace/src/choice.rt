@@ -3,6 +3,8 @@ ghost use Rattle.std.specs.Prelude.{◌≡◌};
 ghost use Rattle.replace.specs.Choice.{same_address, any_same, first_new, choice_of};
 
 use proto::datanode::Datanode;
+use std::error::Error;
+use std::fmt;
 
 /// Why a list of datanodes offers no replacement.
 #[derive(Clone, Copy, Debug, PartialEq, Eq)]
@@ -12,6 +14,17 @@ pub enum NoChoice {
     /// The new datanode is alone, so that there is none to copy the block from.
     Source,
 }
+
+impl fmt::Display for NoChoice {
+    fn fmt<W: fmt::Write>(&self, f: &mut fmt::Formatter<W>) -> fmt::Result {
+        match self {
+            Self::NewNode => write!(f, "the list has no new datanode"),
+            Self::Source => write!(f, "there is no datanode to copy the block from"),
+        }
+    }
+}
+
+impl Error for NoChoice {}
 
 // Two datanodes are the same where they have the same address: ip and port.
 // Stays a function: it compares two parts of a datanode, where `==` would compare them all.

@@ -22,6 +22,10 @@ module _ (p : Packet) (buffer : List ℕ) where
   unfolding end_in
   unfit e = unended (fits_in p buffer) (length (octets_of p)) (sym e)
 
+  pub found : fits_in p buffer ≡ true → end_in p buffer ≡ Some (length (octets_of p))
+  unfolding end_in
+  found h = cond-true (fits_in p buffer) (Some (length (octets_of p))) None h
+
   module _ (n : ℕ) (e : Some n ≡ end_in p buffer) where
     pub fit : (fits_in p buffer ≡ true) × (n ≡ length (octets_of p))
     unfolding end_in

@@ -16,6 +16,6 @@ pub fn put_packet<L: Link>(
     ensures put { L.Link.puts link.old (octets_of (summed chunk_size packet.entry)) (is_ok result) link.new }
     ensures frame { frame.new ≡ over (summed chunk_size packet.entry) frame.old }
 {
-    let end = write_frame(frame, packet, chunk_size).ok_or(LinkLost)?;
+    let end = write_frame(frame, packet, chunk_size).unwrap();
     link.put(&frame[0..end])
 }
