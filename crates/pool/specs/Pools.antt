@@ -3,7 +3,7 @@ use Rattle.std.specs.Prelude.{◌≡◌, ℕ, Bool, cond, not, List, [], ◌∷�
 use Rattle.proto.specs.declared.datanode.Datanode.{Datanode}
 use Rattle.replace.specs.Choice.{any_same}
 use Rattle.namenode.specs.Entries.{Entry, Ask, Offer}
-use Rattle.pool.specs.declared.kept.SpareDatanodes.{SpareDatanodes}
+use Rattle.pool.specs.declared.spare_datanodes.SpareDatanodes.{SpareDatanodes}
 use Rattle.pool.specs.declared.memory.MemoryNamenode.{MemoryNamenode}
 use Rattle.pool.specs.Books as books
 use Rattle.pool.specs.Books.{book_of, offer_with}

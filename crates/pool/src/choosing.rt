@@ -7,7 +7,7 @@ ghost use Rattle.std.proofs.Common.{rules};
 
 use crate::book::PLACES;
 use crate::keeping::refill;
-use crate::kept::SpareDatanodes;
+use crate::spare_datanodes::SpareDatanodes;
 use crate::spares::Spares;
 use namenode::protocol::Refused;
 use proto::datanode::Datanode;

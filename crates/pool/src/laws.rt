@@ -1,7 +1,7 @@
 //! What the requests of the two namenodes do, in the words of their specifications.
 ghost use Rattle.std.specs.Prelude.{◌≡◌, ℕ, Bool, List, Option};
 ghost use Rattle.namenode.specs.Entries.{Entry, Ask, Offer};
-ghost use Rattle.pool.specs.declared.kept.SpareDatanodes.{SpareDatanodes};
+ghost use Rattle.pool.specs.declared.spare_datanodes.SpareDatanodes.{SpareDatanodes};
 ghost use Rattle.pool.specs.declared.memory.MemoryNamenode.{MemoryNamenode};
 ghost use Rattle.pool.specs.declared.spares.NoSpares.{NoSpares};
 ghost use Rattle.pool.specs.Houses;

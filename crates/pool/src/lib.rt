@@ -4,9 +4,9 @@
 pub mod book;
 pub mod choosing;
 pub mod keeping;
-pub mod kept;
 pub mod laws;
 pub mod memory;
+pub mod spare_datanodes;
 pub mod spares;
 #[cfg(test)]
 mod tests;

@@ -8,7 +8,7 @@ ghost use Rattle.pool.specs.Pools.{pool_of};
 ghost use Rattle.std.proofs.Common.{rules};
 
 use crate::book::Book;
-use crate::kept::SpareDatanodes;
+use crate::spare_datanodes::SpareDatanodes;
 use crate::spares::{NoSpares, Spares};
 use namenode::meaning::Namenode;
 use namenode::protocol::{NamenodeProtocol, Offered, Refused};
