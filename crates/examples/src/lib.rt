@@ -6,5 +6,4 @@ ghost use Rattle.examples.specs.Examples.{Examples};
 /// Sizes, frames, answers and replacements come out as the examples have them.
 pub fn examples_stand()
     ensures { Examples }
-{
-}
+{}

@@ -1,13 +1,21 @@
 -- What an opening that is not refused says. Assumes nothing.
-use Rattle.std.proofs.Common.{◌≡◌, ℕ, ◌*◌, ◌/◌, ◌<◌, ◌≤◌, min, Bool, true, false, cond, ◌&&◌, eqb, leb, length, Some, None, Option, refl, ap, ◌∙◌, mul-le-mul_right, arith}
+use Rattle.std.proofs.Common.{◌≡◌, ℕ, ◌*◌, ◌/◌, ◌<◌, ◌≤◌, min, Bool, true, false, cond, ◌&&◌, eqb, leb, List, length, Some, None, Option, sym, refl, ap, ◌∙◌, subst, mul-le-mul_right, arith}
 use Rattle.std.proofs.lemmas.Nat.{le-div, div-add-mod'}
 use Rattle.std.proofs.lemmas.Bool.{leb-true, eqb-true, and_parts}
+use Rattle.proto.specs.declared.datanode.Datanode.{Datanode}
+use Rattle.proto.specs.declared.token.Token.{Token}
+use Rattle.pipeline.specs.declared.set_up.Setting.{Setting}
+use Rattle.pipeline.specs.Replies.{Reply}
+use Rattle.pipeline.specs.SetUps.{SetsUp}
 use Rattle.writer.specs.declared.admit.Lens.{Lens}
 use Rattle.writer.specs.declared.opening.Opening.{Opening}
 use Rattle.writer.specs.declared.refusal.Refusal.{Refusal}
 use Rattle.writer.specs.declared.refusal.Refusal.TheVariants as refusal
-use Rattle.writer.specs.Opening.{capacity_in, by_length, by_count, by_form, by_buffers, else}
-use Rattle.writer.specs.Settling.{later_refusal}
+use Rattle.writer.specs.declared.terms.Terms.{Terms}
+use Rattle.writer.specs.Opening.{capacity_in, by_length, by_count, by_form, by_buffers, else, stage_for, block_for, open_refusal, SetsUpFor, Shut, Started, Opens}
+use Rattle.writer.specs.Settings.{Settles}
+use Rattle.writer.specs.Settling.{later_refusal, Settles as AllSettled}
+use Rattle.writer.specs.Views.{View}
 
 pub slots_bound : (r store k : ℕ) → 0 < k → 3 * k ≤ store → r ≡ min 101 (store / k) → (3 ≤ r) × (r ≤ 101) × (r * k ≤ store)
 slots_bound r store k some three e =
@@ -48,3 +56,22 @@ later_none o l a b c d =
     ap (λ (x : Option Refusal). else x (else (by_count o) (else (by_form o) (by_buffers o l)))) a
     ∙ ap (λ (x : Option Refusal). else x (else (by_form o) (by_buffers o l))) b
     ∙ ap (λ (x : Option Refusal). else x (by_buffers o l)) c ∙ d
+
+-- the set up that was made is that of these datanodes
+pub set_up_for : {L : Type 0} (sets : L → Datanode → List ℕ → ℕ → Option (List ℕ) → L → Type 0) (o : Opening) (t : Terms) (token : Token) (nodes chain : List Datanode) (a : L) (request request' answer answer' : List ℕ) (reply : Reply) (b : L) {setting : Setting}
+    → SetsUp sets setting nodes a request request' answer answer' reply b → nodes ≡ chain
+    → Settles (block_for o t) token t.client_name (stage_for o.initial_len) o.initial_len o.initial_len o.stamp o.chunk_size setting
+    → SetsUpFor sets o t token chain a request request' answer answer' reply b
+set_up_for sets o t token nodes chain a request request' answer answer' reply b {setting} s e settles = record {
+  setting = setting;
+  settles = settles;
+  sets_up = subst (λ (ns : List Datanode). SetsUp sets setting ns a request request' answer answer' reply b) e s;
+}
+
+-- an opening that is not refused before its set up
+pub opened : {L : Type 0} (sets : L → Datanode → List ℕ → ℕ → Option (List ℕ) → L → Type 0) (o : Opening) (l : Lens) (nodes : List Datanode) (t : Terms) (token : Token) (a : L) (request request' answer answer' : List ℕ) (reply : Reply) (r : Option Refusal) (w : View) (b : L)
+    → AllSettled o l nodes t token → SetsUpFor sets o t token nodes a request request' answer answer' reply b → Started reply o l token nodes r w
+    → Opens sets (open_refusal o l) o l a request answer r w b request' answer'
+opened sets o l nodes t token a request request' answer answer' reply r w b s f d =
+    subst (λ (z : Option Refusal). Opens sets z o l a request answer r w b request' answer') (sym s.good)
+    (record { nodes = nodes; rows = s.rows; token = token; given = s.given; terms = t; settled = s.terms; reply = reply; sets_up = f; then = d })

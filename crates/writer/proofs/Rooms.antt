@@ -1,5 +1,5 @@
 -- Packets fit their slots, and slots the store. Assumes nothing.
-use Rattle.std.proofs.Common.{ℕ, ◌+◌, ◌*◌, ◌%◌, ◌<◌, ◌≤◌, eqb, length, vec_items, arith}
+use Rattle.std.proofs.Common.{◌≡◌, ℕ, zero, suc, ◌+◌, ◌*◌, ◌%◌, ◌<◌, ◌≤◌, eqb, length, get_or, replicate, vec_items, refl, arith}
 use Rattle.std.proofs.lemmas.Bool.{cond_both}
 use Rattle.packet.specs.Sizes.{first_capacity_of}
 use Rattle.packet.proofs.Room.{size_first, size_first_some, size_some}
@@ -30,3 +30,9 @@ filling_small w = omega (arith, w.fits, room_within w.terms (w.first + w.count))
 -- there is a size for each slot
 pub sizes_table : (w : Writer) → w.terms.slots ≤ length (sizes_of (vec_items w.held.records))
 sizes_table w = omega (arith, sizes_long (vec_items w.held.records), w.held.records.ok.0, w.held.table, w.shape)
+
+-- slots that nothing was put in have no bytes
+pub none_in : (n i : ℕ) → ◌≡◌ {A = ℕ} (get_or (replicate n 0) i 0) 0
+none_in zero i = refl
+none_in (suc n) zero = refl
+none_in (suc n) (suc i) = none_in n i

@@ -122,7 +122,13 @@ abbrev pub Started : Reply → Opening → Lens → Token → List Datanode → 
 Started (Ok _) o l token nodes r w = (r ≡ None) × Fresh o l token nodes w
 Started (Err why) o l token nodes r w = (r ≡ Some (refusal.SetUp why)) × Shut w
 
--- the pipeline is set up with minimum and maximum the initial length
+-- the pipeline is set up, once, with minimum and maximum the initial length
+pub record SetsUpFor {L : Type 0} (sets : L → Datanode → List ℕ → ℕ → Option (List ℕ) → L → Type 0) (o : Opening) (terms : Terms) (token : Token) (nodes : List Datanode) (a : L) (request request' answer answer' : List ℕ) (reply : Reply) (b : L) : Type 0 where
+  pub setting : Setting
+  pub settles : Settles (block_for o terms) token terms.client_name (stage_for o.initial_len) o.initial_len o.initial_len o.stamp o.chunk_size setting
+  pub sets_up : SetsUp sets setting nodes a request request' answer answer' reply b
+
+-- the datanodes and the token as they were given, the pipeline set up with them, and the writer that comes of the reply
 pub record Starts {L : Type 0} (sets : L → Datanode → List ℕ → ℕ → Option (List ℕ) → L → Type 0) (o : Opening) (l : Lens) (a : L) (request answer : List ℕ) (r : Option Refusal) (w : View) (b : L) (request' answer' : List ℕ) : Type 0 where
   pub nodes : List Datanode
   pub rows : Rows (rows_in o) nodes
@@ -130,10 +136,8 @@ pub record Starts {L : Type 0} (sets : L → Datanode → List ℕ → ℕ → O
   pub given : held token.message ≡ o.token.now
   pub terms : Terms
   pub settled : TermsFor o l terms
-  pub setting : Setting
-  pub settles : Settles (block_for o terms) token terms.client_name (stage_for o.initial_len) o.initial_len o.initial_len o.stamp o.chunk_size setting
   pub reply : Reply
-  pub sets_up : SetsUp sets setting nodes a request request' answer answer' reply b
+  pub sets_up : SetsUpFor sets o terms token nodes a request request' answer answer' reply b
   pub then : Started reply o l token nodes r w
 
 -- a refusal before the set up leaves link and buffers

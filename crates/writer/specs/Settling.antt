@@ -5,7 +5,7 @@ use Rattle.proto.specs.declared.token.Token.{Token}
 use Rattle.proto.specs.Messages.{held}
 use Rattle.pipeline.specs.Offers.{Rows}
 use Rattle.writer.specs.declared.admit.Lens.{Lens}
-use Rattle.writer.specs.declared.open.Forms.{Forms}
+use Rattle.writer.specs.declared.settle.Forms.{Forms}
 use Rattle.writer.specs.declared.opening.Opening.{Opening}
 use Rattle.writer.specs.declared.refusal.Refusal.{Refusal}
 use Rattle.writer.specs.declared.refusal.Refusal.TheVariants as refusal

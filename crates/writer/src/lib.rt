@@ -21,6 +21,7 @@ pub mod recovery;
 pub mod refusal;
 pub mod replay;
 pub mod rows;
+pub mod settle;
 pub mod state;
 pub mod survive;
 pub mod tables;

@@ -1,10 +1,12 @@
-//! A block opened: looked at, its pipeline set up, and its writer made.
-ghost use Rattle.std.specs.Prelude.{◌≡◌, ◌+◌, ◌*◌, ◌/◌, ◌^◌, ◌<◌, ◌≤◌, min, length, None, vec_capacity, MatchResult};
-ghost use Rattle.proto.specs.Messages.{held};
-ghost use Rattle.packet.specs.Sizes.{capacity_of};
+//! A block opened: its pipeline set up, and its writer made.
+ghost use Rattle.std.specs.Prelude.{◌≡◌, ◌≤◌, false, length, replicate, Ok, Err, IfOk, is_ok};
+ghost use Rattle.std.specs.Result.{result_err};
+ghost use Rattle.pipeline.specs.Channels.{SameLoans};
+ghost use Rattle.writer.specs.declared.state.kind.State.TheVariants.{Closed};
+ghost use Rattle.writer.specs.declared.admit.Lens.{Lens};
 ghost use Rattle.writer.specs.Admits.{lens_of};
-ghost use Rattle.writer.specs.Opening.{size_refusal, by_length, by_buffers, capacity_in, open_refusal, stage_for, TermsFor, Fresh, Shut, Started, Starts, Opens};
-ghost use Rattle.writer.specs.Settling.{Formed, Settled, SettledSized, Fits};
+ghost use Rattle.writer.specs.Opening.{open_refusal, stage_for, TermsFor, Fresh, Shut, Opens, SetsUpFor};
+ghost use Rattle.writer.specs.Settling.{Fits};
 ghost use Rattle.writer.specs.Views.{view_of};
 
 use crate::admit::Lens;
@@ -15,10 +17,9 @@ use crate::state::kind::State;
 use crate::tables::Tables;
 use crate::terms::Terms;
 use chain::link::Link;
-use held::table::SLOTS;
 use packet::size::PacketSize;
-use packet::size::settings::SizeError;
-use pipeline::nodes::NodeTable;
+use pipeline::channel::Channel;
+use pipeline::reply::ReplyError;
 use pipeline::set_up::Setting;
 use proto::block::{ClientOperationHeader, ExtendedBlock};
 use proto::fixed::Fixed;
@@ -27,96 +28,165 @@ use replace::datanode::{Policy, ReplaceDatanodeOnFailure};
 use request::stage::Stage;
 use std::alloc::{AllocError, Global};
 
-/// What was read of an opening besides its datanodes.
-#[derive(Clone, Copy)]
-pub struct Forms {
-    pub(crate) token: Token,
-    pub(crate) pool_id: Fixed<64>,
-    pub(crate) client_name: Fixed<64>,
+/// What an opening came to: a writer, which is closed where the opening was refused.
+#[derive(Drop)]
+pub struct Opened {
+    pub writer: Writer,
+    pub outcome: Result<(), Refusal>,
 }
 
-impl From<SizeError> for Refusal {
-    ghost from_gives = { λ error refusal. refusal ≡ size_refusal error };
-
-    fn from(error: SizeError) -> Refusal {
-        match error {
-            SizeError::Chunk => Refusal::ChunkSize,
-            SizeError::Packet => Refusal::PacketSize,
+impl Terms {
+    // The terms of a block that was never opened: the least there are.
+    fn none() -> Terms
+        ensures fits { Fits result }
+        ensures empty { result.initial_len ≡ 0 }
+    {
+        Terms {
+            size: PacketSize::least(),
+            slots: 3,
+            store_len: 3,
+            block_size: 0,
+            initial_len: 0,
+            replication: 0,
+            replace: ReplaceDatanodeOnFailure::new(Policy::Never, false),
+            pool_id: Fixed::empty(),
+            block_id: 0,
+            client_name: Fixed::empty(),
         }
-    }
-}
-
-// How many slots the store has: as many packets as it holds, and no more than the table has records.
-fn slots_in(store_len: usize, capacity: usize) -> usize
-    requires { (0 < capacity) × (3 * capacity ≤ store_len) }
-    ensures value { result ≡ min 101 (store_len / capacity) }
-    ensures bounds { (3 ≤ result) × (result ≤ 101) × (result * capacity ≤ store_len) }
-{
-    SLOTS.min(store_len / capacity)
-}
-
-// What stays of an opening that is not refused.
-fn terms_for(opening: Opening<'_>, size: PacketSize, forms: Forms, lens: Lens) -> Terms
-    requires chunk_value { (size.chunk ≡ opening.chunk_size) × (size.packet ≡ opening.packet_size) }
-    requires opening_value { (by_length opening ≡ None) × (by_buffers opening lens ≡ None) }
-    requires pool_id_value { (held forms.pool_id ≡ opening.pool_id.now) × (held forms.client_name ≡ opening.client_name.now) }
-    ensures terms { TermsFor opening.entry lens result }
-    ensures fits { Fits result }
-{
-    Terms {
-        size,
-        slots: slots_in(lens.store, size.capacity()),
-        store_len: lens.store,
-        block_size: opening.block_size,
-        initial_len: opening.initial_len,
-        replication: opening.replication,
-        replace: opening.replace,
-        pool_id: forms.pool_id,
-        block_id: opening.block_id,
-        client_name: forms.client_name,
     }
 }
 
 impl Tables {
-    // Reads the datanodes into their table, and the token and the names; nothing where one of them or the path is not in form.
-    fn read_forms(&mut self, opening: Opening<'_>) -> Option<Forms>
-        requires { (length opening.infos.now ≤ 8) × (length opening.storage_ids.now ≡ length opening.infos.now) × (length opening.storage_types.now ≡ length opening.infos.now) }
-        ensures { Formed opening.entry self.new.nodes.rows.items result }
+    // A writer that has taken nothing, on these tables and the datanodes in them.
+    fn into_writer(self, terms: Terms, token: Token, state: State, stamp: u64, time: u64) -> Writer
+        requires fits { Fits terms }
+        requires few { length self.nodes.rows.items ≤ 8 }
+        ensures { view_of result ≡ record { terms = terms; state = state; stamp = stamp; token = token; len = terms.initial_len; first = 0; count = 0; filling = 0; beaten = time; sizes = replicate 101 0; nodes = self.nodes.rows.items } }
     {
-        opening.read_nodes(&mut self.nodes)?;
-        let token = Token::new(opening.token)?;
-        if !opening.has_texts() {
-            return None;
-        }
-        Some(Forms {
+        let Tables {
+            held,
+            nodes,
+            chosen,
+            gone,
+            offered,
+        } = self;
+        Writer {
+            terms,
+            held,
+            nodes,
+            chosen,
+            gone,
+            offered,
+            state,
+            stamp,
             token,
-            pool_id: Fixed::try_from(opening.pool_id).ok()?,
-            client_name: Fixed::try_from(opening.client_name).ok()?,
-        })
+            len: terms.initial_len,
+            first: 0,
+            count: 0,
+            waiting: 0,
+            filling: 0,
+            beaten: time,
+        }
     }
 
-    // Looks at the opening in the order of the refusals, and settles what stays.
-    fn settle(&mut self, opening: Opening<'_>, lens: Lens) -> Result<(Terms, Token), Refusal>
-        ensures { Settled opening.entry lens self.new.nodes.rows.items result }
+    // What a refused opening comes to: a writer that is closed, of no block.
+    fn refused(self, refusal: Refusal) -> Opened
+        ensures closed { Shut (view_of result.writer) }
+        ensures why { result.outcome ≡ Err refusal }
     {
-        let size = PacketSize::new(opening.chunk_size, opening.packet_size)?;
-        self.settle_sized(opening, size, lens)
+        let mut tables = self;
+        tables.nodes.clear();
+        Opened {
+            writer: tables.into_writer(Terms::none(), Token::none(), State::Closed, 0, 0),
+            outcome: Err(refusal),
+        }
     }
 
-    // The sizes stand beside the opening that they were accepted of: a struct of both would be made for this one step.
-    fn settle_sized(
-        &mut self,
+    // What an opening comes to whose pipeline is set up.
+    fn accepted(self, opening: Opening<'_>, terms: Terms, token: Token) -> Opened
+        requires fits { Fits terms }
+        requires few { length self.nodes.rows.items ≤ 8 }
+        ensures opened { (lens : Lens) → TermsFor opening.entry lens terms → Fresh opening.entry lens token self.nodes.rows.items (view_of result.writer) }
+        ensures well { result.outcome ≡ Ok tt }
+    {
+        Opened {
+            writer: self.into_writer(terms, token, State::Streaming, opening.stamp, opening.time),
+            outcome: Ok(()),
+        }
+    }
+
+    // Sets up the pipeline of the datanodes that were read, with minimum and maximum the bytes that the block has.
+    fn set_up<'a, L: Link>(
+        &'a self,
+        channel: &mut Channel<'_, L>,
         opening: Opening<'_>,
-        size: PacketSize,
-        lens: Lens,
-    ) -> Result<(Terms, Token), Refusal>
-        requires { (size.chunk ≡ opening.chunk_size) × (size.packet ≡ opening.packet_size) }
-        ensures { SettledSized opening.entry lens self.new.nodes.rows.items result }
+        terms: &'a Terms,
+        token: &'a Token,
+    ) -> Result<(), ReplyError>
+        requires { (1 ≤ length self.now.nodes.rows.items) × (length self.now.nodes.rows.items ≤ 8) }
+        ensures same { SameLoans channel.old channel.new }
+        ensures acts { SetsUpFor L.Link.sets opening.entry terms.now token.now self.now.nodes.rows.items channel.old.link.now channel.old.request.now channel.new.request.now channel.old.answer.now channel.new.answer.now result channel.new.link.now }
     {
-        opening.by_length()?;
-        opening.by_count()?;
-        let forms = self.read_forms(opening).ok_or(Refusal::Form)?;
-        opening.by_buffers(size, lens)?;
-        Ok((terms_for(opening, size, forms, lens), forms.token))
+        let setting = Setting {
+            header: ClientOperationHeader {
+                block: ExtendedBlock {
+                    pool_id: terms.pool_id,
+                    block_id: opening.block_id,
+                    generation_stamp: opening.stamp,
+                    num_bytes: opening.initial_len,
+                },
+                token,
+                client_name: &terms.client_name,
+            },
+            stage: stage_for(opening.initial_len),
+            min_bytes: opening.initial_len,
+            max_bytes: opening.initial_len,
+            latest_stamp: opening.stamp,
+            chunk_size: opening.chunk_size,
+        };
+        channel.set_up(self.nodes.as_slice(), setting)
+    }
+}
+
+// A block that has bytes is appended.
+fn stage_for(initial_len: u64) -> Stage
+    ensures { result ≡ stage_for initial_len }
+{
+    if initial_len == 0 {
+        Stage::SetupCreate
+    } else {
+        Stage::SetupAppend
+    }
+}
+
+impl Writer {
+    /// Opens a block: looks at what it is opened with, in the order of the refusals, sets the pipeline up, and takes all memory that the
+    /// writer ever has. Where that is refused, the writer is closed; where there is no memory, nothing was done.
+    pub fn open<L: Link>(
+        heap: Global,
+        opening: Opening<'_>,
+        link: &mut L,
+        store: &[u8],
+        frame: &[u8],
+        request: &mut [u8],
+        answer: &mut [u8],
+    ) -> Result<Opened, AllocError>
+        ensures opened { IfOk result (λ x. Opens L.Link.sets (open_refusal opening.entry (lens_of store.now frame.now request.old answer.old)) opening.entry (lens_of store.now frame.now request.old answer.old) link.entry.now request.old answer.old (result_err x.outcome) (view_of x.writer) link.exit.now request.new answer.new) }
+        ensures unmade { is_ok result ≡ false → (link.exit.now ≡ link.entry.now) × (request.new ≡ request.old) × (answer.new ≡ answer.old) }
+    {
+        let mut tables = Tables::new(heap)?;
+        let (terms, token) = match tables.settle(opening, Lens::of(store, frame, request, answer)) {
+            Ok(settled) => settled,
+            Err(refusal) => return Ok(tables.refused(refusal)),
+        };
+        let mut channel = Channel {
+            link,
+            request,
+            answer,
+        };
+        match tables.set_up(&mut channel, opening, &terms, &token) {
+            Ok(()) => Ok(tables.accepted(opening, terms, token)),
+            Err(why) => Ok(tables.refused(Refusal::SetUp(why))),
+        }
     }
 }

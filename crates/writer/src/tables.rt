@@ -15,6 +15,7 @@ pub struct Tables {
     pub(crate) gone: NodeTable,
     pub(crate) offered: NodeTable,
     ghost sizes: { sizes_of held.records.items ≡ replicate 101 0 },
+    ghost empty: { vec_len chosen.rows ≡ 0 },
 }
 
 impl Tables {

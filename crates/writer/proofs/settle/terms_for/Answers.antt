@@ -3,7 +3,7 @@ use Rattle.packet.specs.Sizes.{capacity_of}
 use Rattle.packet.proofs.Room.{size_some}
 use Rattle.writer.specs.Opening.{capacity_in}
 use Rattle.writer.proofs.Openings.{store_fits}
-use Rattle.writer.proofs.open.terms_for.Goals as goal
+use Rattle.writer.proofs.settle.terms_for.Goals as goal
 
 pub slots_in-requires : goal.slots_in-requires
 slots_in-requires c =

@@ -1,6 +1,6 @@
 use Rattle.std.proofs.Common.{◌≡◌, ◌/◌, min, rules}
 use Rattle.writer.proofs.Openings.{slots_bound}
-use Rattle.writer.proofs.open.slots_in.Goals as goal
+use Rattle.writer.proofs.settle.slots_in.Goals as goal
 
 pub returns : goal.returns
 returns c =
