@@ -19,6 +19,8 @@ impl Bench {
         self.lead.pending()
     }
 
+    // The replicas are lent by count and number, by no iterator: what is promised speaks of the replica of number `i`.
+
     /// How many nodes have a replica.
     pub fn replicas(&self) -> usize
         ensures { result ≡ length self.now.mirrors.items }

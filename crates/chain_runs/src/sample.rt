@@ -18,8 +18,9 @@ pub fn node() -> Result<Datanode, Fail> {
     Ok(Datanode::new(NODE, b"DS-1", 1).ok_or("the datanode is not in form")?)
 }
 
+// The recorder has a sample alike: the program and the runs share no crate but those under test, and their errors differ.
 /// A request for a pipeline of one node and `others` more, over chunks of four bytes.
-pub fn request(others: usize, out: &mut [u8]) -> Result<usize, Fail> {
+pub fn request(others: usize, out: &mut [u8]) -> Result<&[u8], Fail> {
     if others > 7 {
         return Err(Fail::new("a pipeline has at most eight nodes"));
     }
@@ -47,16 +48,23 @@ pub fn request(others: usize, out: &mut [u8]) -> Result<usize, Fail> {
         latest_stamp: 1001,
         chunk_size: 4,
     };
-    Ok(send(&request, out).ok_or("the request does not fit")?)
+    let end = send(&request, out).ok_or("the request does not fit")?;
+    Ok(out.get(..end).ok_or("the request is too long")?)
 }
 
 /// The frame of a packet over chunks of four bytes.
-pub fn frame(offset: u64, seqno: u64, data: &[u8], out: &mut [u8]) -> Result<usize, Fail> {
+pub fn frame<'a>(
+    offset: u64,
+    seqno: u64,
+    data: &[u8],
+    out: &'a mut [u8],
+) -> Result<&'a [u8], Fail> {
     let packet = WritePacket {
         offset,
         seqno,
         last: false,
         data,
     };
-    Ok(write_frame(out, packet, 4).ok_or("the frame does not fit")?)
+    let end = write_frame(out, packet, 4).ok_or("the frame does not fit")?;
+    Ok(out.get(..end).ok_or("the frame is too long")?)
 }

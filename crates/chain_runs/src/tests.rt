@@ -11,52 +11,41 @@ use std::test::Fail;
 fn set_up<L: Link>(rt: &impl Abort, link: &mut L, others: usize) -> Result<(), Fail> {
     let node = node()?;
     let mut asked = [0u8; 1024];
-    let n = request(others, &mut asked)?;
-    assert!(rt; n <= 1024);
+    let asked = request(others, &mut asked)?;
     let mut answer = [7u8; 4];
     let unreadable = link.set_up(&node, b"none", 0, &mut answer);
     assert_eq!(rt; unreadable, Err(LinkLost));
     let mut short = [7u8; 1];
-    assert_eq!(rt;
-        link.set_up(&node, &asked[0..n], 0, &mut short),
-        Err(LinkLost)
-    );
-    assert_eq!(rt;
-        link.set_up(&node, &asked[0..n], 1, &mut answer),
-        Err(LinkLost)
-    );
+    assert_eq!(rt; link.set_up(&node, asked, 0, &mut short), Err(LinkLost));
+    assert_eq!(rt; link.set_up(&node, asked, 1, &mut answer), Err(LinkLost));
     assert_eq!(rt; answer, [7, 7, 7, 7]);
-    assert_eq!(rt; link.set_up(&node, &asked[0..n], 0, &mut answer), Ok(2));
+    assert_eq!(rt; link.set_up(&node, asked, 0, &mut answer), Ok(2));
     assert_eq!(rt; answer, [8, 0, 7, 7]);
     Ok(())
 }
 
 // A packet put, and what the link answers.
 fn put<L: Link>(
-    rt: &impl Abort,
     link: &mut L,
     offset: u64,
     seqno: u64,
     data: &[u8],
 ) -> Result<Result<(), LinkLost>, Fail> {
     let mut room = [0u8; 128];
-    let n = frame(offset, seqno, data, &mut room)?;
-    assert!(rt; n <= 128);
-    Ok(link.put(&room[0..n]))
+    Ok(link.put(frame(offset, seqno, data, &mut room)?))
 }
 
 // No frame, another place, wrong sums, a heartbeat, and two packets as they should be.
 fn puts<L: Link>(rt: &impl Abort, link: &mut L) -> Result<(), Fail> {
     assert_eq!(rt; link.put(b"no frame"), Err(LinkLost));
-    assert_eq!(rt; put(rt, link, 4, 0, b"abcd")?, Err(LinkLost));
+    assert_eq!(rt; put(link, 4, 0, b"abcd")?, Err(LinkLost));
     let mut room = [0u8; 128];
-    let n = frame(0, 0, b"abcd", &mut room)?;
-    assert!(rt; n == 39);
+    assert_eq!(rt; frame(0, 0, b"abcd", &mut room)?.len(), 39);
     room[38] = b'e';
     assert_eq!(rt; link.put(&room[0..39]), Err(LinkLost));
-    assert_eq!(rt; put(rt, link, 0, HEART_BEAT_SEQNO, b"")?, Ok(()));
-    assert_eq!(rt; put(rt, link, 0, 0, b"abcd")?, Ok(()));
-    assert_eq!(rt; put(rt, link, 4, 1, b"ef")?, Ok(()));
+    assert_eq!(rt; put(link, 0, HEART_BEAT_SEQNO, b"")?, Ok(()));
+    assert_eq!(rt; put(link, 0, 0, b"abcd")?, Ok(()));
+    assert_eq!(rt; put(link, 4, 1, b"ef")?, Ok(()));
     Ok(())
 }
 
@@ -79,7 +68,7 @@ fn a_spool(rt: HostRuntime) -> Result<(), Fail> {
     set_up(&rt, &mut spool, 0)?;
     puts(&rt, &mut spool)?;
     assert_eq!(rt;
-        put(&rt, &mut spool, 6, 2, b"ghi")?,
+        put(&mut spool, 6, 2, b"ghi")?,
         Err(LinkLost),
         "the memory is full"
     );
@@ -88,11 +77,10 @@ fn a_spool(rt: HostRuntime) -> Result<(), Fail> {
     answers(&rt, &mut spool, 4);
     assert!(rt; spool.kept() == b"abcdef".as_slice());
     let mut large = [0u8; 1024];
-    let n = request(1, &mut large)?;
-    assert!(rt; n <= 1024);
+    let large = request(1, &mut large)?;
     let mut answer = [0u8; 4];
     assert_eq!(rt;
-        spool.set_up(&node()?, &large[0..n], 0, &mut answer),
+        spool.set_up(&node()?, large, 0, &mut answer),
         Err(LinkLost),
         "it has one node"
     );
@@ -106,7 +94,7 @@ fn a_bench(rt: HostRuntime) -> Result<(), Fail> {
     set_up(&rt, &mut bench, 2)?;
     puts(&rt, &mut bench)?;
     assert_eq!(rt;
-        put(&rt, &mut bench, 6, 2, b"ghi")?,
+        put(&mut bench, 6, 2, b"ghi")?,
         Err(LinkLost),
         "the memory is full"
     );

@@ -10,7 +10,8 @@ use proto::datanode::Datanode;
 use proto::token::Token;
 use std::alloc::{AllocError, Global};
 
-// Puts these datanodes in place of those that were kept.
+// Puts these datanodes in place of those that were kept. Beside `NodeTable::overwrite` of `pipeline`, which keeps its memory as it is: the
+// crates share no table, and here it is enough that the room gets no smaller.
 pub(crate) fn refill(kept: &mut Vec<Datanode>, nodes: &[Datanode])
     requires { length nodes.now ≤ vec_capacity kept.old }
     ensures items { kept.new.items ≡ nodes.now }

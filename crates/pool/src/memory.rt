@@ -105,6 +105,7 @@ impl<S: Spares> NamenodeProtocol for MemoryNamenode<S> {
         Some(hand_out(self.spares.offered().get(position)?))
     }
 
+    // As `stamp_token`: this namenode has one token, and the interface asks for both by names of their own.
     fn offered_token(&self) -> &[u8] {
         self.book.token()
     }

@@ -20,6 +20,7 @@ pub trait Spares: Sized {
     ghost stays: { Self → Self → Type 0 };
 
     /// Chooses a list with one datanode more than the survivors, and hands it out.
+    // The parameters stay three: the interface asks by them, and they are HDFS's own.
     fn list(
         &mut self,
         size: u64,

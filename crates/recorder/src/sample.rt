@@ -29,13 +29,14 @@ fn text(bytes: &[u8]) -> anyhow::Result<Fixed<64>> {
     Fixed::try_from(bytes).context("a text is longer than 64 octets")
 }
 
-/// Writes the request for a new block on as many datanodes, 1 to 8, to the front of `out`, and answers its length.
-pub fn write_request(
+// `chunk_runs` has a sample alike: the program and the runs share no crate but those under test, and their errors differ.
+/// Writes the request for a new block on as many datanodes, 1 to 8, to the front of `out`, and lends it.
+pub fn write_request<'a>(
     node: &Datanode,
     nodes: usize,
     chunk_size: u32,
-    out: &mut [u8],
-) -> anyhow::Result<usize> {
+    out: &'a mut [u8],
+) -> anyhow::Result<&'a [u8]> {
     ensure!(
         nodes >= 1 && nodes <= 8,
         "a pipeline has one to eight datanodes"
@@ -63,5 +64,7 @@ pub fn write_request(
         latest_stamp: STAMP,
         chunk_size,
     };
-    send(&request, out).context("the request does not fit its buffer")
+    let end = send(&request, out).context("the request does not fit its buffer")?;
+    out.get(..end)
+        .context("the request is longer than its buffer")
 }

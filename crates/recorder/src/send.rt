@@ -8,7 +8,7 @@ use packet::size::PacketSize;
 use packet::sums::sums_match;
 use recording::cut::packet_count;
 
-// Whether the frame's octets are read back as that packet, with the sums of its data.
+// Whether the frame's octets are read back as that packet, with the sums of its data. A frame does not say its chunk size.
 fn comes_back(octets: &[u8], packet: WritePacket<'_>, chunk_size: u32) -> bool {
     read_frame(octets).is_some_and(|frame| {
         frame.packet == packet && sums_match(frame.sums, packet.data, chunk_size)

@@ -3,7 +3,7 @@ use crate::packets::packet_at;
 use crate::sample::{REQUEST_LEN, node, write_request};
 use ack::ack::Verdict;
 use ack::response::BlockOpResponse;
-use anyhow::{Context, anyhow, ensure};
+use anyhow::{Context, anyhow, bail, ensure};
 use chain::link::Link;
 use packet::size::PacketSize;
 use recording::cut::packet_count;
@@ -21,20 +21,17 @@ pub struct Tally {
 }
 
 impl Tally {
-    // Counts an answer, which must confirm the packet whose turn it is, and tells whether one came.
-    fn hear(&mut self, heard: Option<Verdict>) -> anyhow::Result<bool> {
-        match heard {
-            None => Ok(false),
-            Some(Verdict::Packet(seqno)) => {
-                ensure!(
-                    seqno == self.confirmed,
-                    "an answer has another packet's number"
-                );
-                self.confirmed = self.confirmed.saturating_add(1);
-                Ok(true)
-            }
-            Some(_) => Err(anyhow!("an answer confirms no packet")),
-        }
+    // Counts an answer, which must confirm the packet whose turn it is.
+    fn hear(&mut self, verdict: Verdict) -> anyhow::Result<()> {
+        let Verdict::Packet(seqno) = verdict else {
+            bail!("an answer confirms no packet");
+        };
+        ensure!(
+            seqno == self.confirmed,
+            "an answer has another packet's number"
+        );
+        self.confirmed = self.confirmed.saturating_add(1);
+        Ok(())
     }
 
     /// Tells what was counted, and how many packets are still pending.
@@ -49,10 +46,7 @@ impl Tally {
 pub fn set_up<L: Link>(link: &mut L, nodes: usize, chunk_size: u32) -> anyhow::Result<()> {
     let node = node()?;
     let mut request = [0u8; REQUEST_LEN];
-    let len = write_request(&node, nodes, chunk_size, &mut request)?;
-    let request = request
-        .get(0..len)
-        .context("the request is longer than its buffer")?;
+    let request = write_request(&node, nodes, chunk_size, &mut request)?;
     let mut answer = [0u8; ANSWER_LEN];
     // Each `map_err` stays: with `context` the cause would be printed too.
     let len = link
@@ -92,13 +86,16 @@ pub fn store_block<L: Link>(
             &mut answer,
         )?;
         tally.put = tally.put.saturating_add(1);
-        tally.hear(heard)?;
+        if let Some(verdict) = heard {
+            tally.hear(verdict)?;
+        }
     }
     // Stays a count: a link that has an answer each time would never let a `while` end.
     for _ in 0..=count {
-        if !tally.hear(ask(link, &mut answer)?)? {
+        let Some(verdict) = ask(link, &mut answer)? else {
             break;
-        }
+        };
+        tally.hear(verdict)?;
     }
     Ok(tally)
 }

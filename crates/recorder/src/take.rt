@@ -31,6 +31,7 @@ pub fn take_lines(
     block_size: u64,
     block: &mut Vec<u8>,
 ) -> anyhow::Result<()> {
+    // Counted by hand, not by `enumerate`: the number of the last line is also the total that is printed.
     let mut lines = 0usize;
     let mut taken = 0usize;
     let mut bad = 0usize;

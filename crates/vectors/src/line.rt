@@ -4,8 +4,8 @@ use crate::tally::Kind;
 use crate::{answers, frames, transfer, write};
 use std::alloc::Global;
 
-/// The kind of a line, and whether our octets or our verdict agree with it.
-pub fn run(heap: Global, line: &str) -> Result<(Kind, bool), LineError> {
+/// The kind of a line that our octets or our verdict agree with.
+pub fn run(heap: Global, line: &str) -> Result<Kind, LineError> {
     let words: Vec<&str> = line.split(' ').collect(heap)?;
     let (kind, rest) = words.as_slice().split_first().ok_or(LineError::Form)?;
     let kind = kind.parse()?;
@@ -17,5 +17,8 @@ pub fn run(heap: Global, line: &str) -> Result<(Kind, bool), LineError> {
         Kind::Answer => answers::agrees(heap, rest)?,
         Kind::Response => answers::response_agrees(heap, rest)?,
     };
-    Ok((kind, agrees))
+    if !agrees {
+        return Err(LineError::Differs(kind));
+    }
+    Ok(kind)
 }

@@ -11,10 +11,9 @@ mod tally;
 mod transfer;
 mod write;
 
-use error::LineError;
 use std::io;
 use std::io::{BufRead, BufReader};
-use tally::{Kind, Tally};
+use tally::Tally;
 
 fn report(rt: &impl Print, tally: Tally) -> io::Result<()> {
     println!(rt; "frames {}", tally.frames)?;
@@ -25,30 +24,19 @@ fn report(rt: &impl Print, tally: Tally) -> io::Result<()> {
     println!(rt; "lines that differ {}", tally.differing)
 }
 
-// Prints a line by its number where it differs or cannot be run.
-fn note(
-    rt: &impl Print,
-    number: usize,
-    outcome: Result<(Kind, bool), LineError>,
-) -> io::Result<()> {
-    match outcome {
-        Ok((_, true)) => Ok(()),
-        Ok((kind, false)) => println!(rt; "line {number} differs: {kind:?}"),
-        Err(error) => println!(rt; "line {number} cannot be run: {error:?}"),
-    }
-}
-
 fn main(rt: HostRuntime) -> io::Result<()> {
     let heap = rt.alloc();
     let mut tally = Tally::new();
     for (i, text) in BufReader::new(heap, rt.stdin())?.lines(heap).enumerate() {
         let text = text?;
-        let outcome = line::run(heap, text.as_str());
-        tally = match outcome {
-            Ok((kind, true)) => tally.agreed(kind),
-            Ok((_, false)) | Err(_) => tally.differed(),
+        tally = match line::run(heap, text.as_str()) {
+            Ok(kind) => tally.agreed(kind),
+            Err(error) => {
+                let number = i.saturating_add(1);
+                println!(rt; "line {number} {error}")?;
+                tally.differed()
+            }
         };
-        note(&rt, i.saturating_add(1), outcome)?;
     }
     report(&rt, tally)
 }

@@ -8,6 +8,11 @@ use proto::token::Token;
 use request::send::{Request, send};
 use std::alloc::Global;
 
+// So many octets hold every request.
+const REQUEST_LEN: usize = 4096;
+
+// Functions make the parts: neither FromStr nor a part's type is of this crate, and tokens and datanodes take memory besides.
+
 /// A text of at most 64 octets.
 pub fn text_of(text: &str) -> Result<Fixed<64>, LineError> {
     Ok(Fixed::try_from(text.as_bytes())?)
@@ -42,8 +47,8 @@ pub fn node_of(heap: Global, word: &str) -> Result<Datanode, LineError> {
 
 /// Whether the request is written as these octets.
 pub fn is_sent_as<R: Request>(request: &R, octets: &[u8]) -> bool {
-    let mut buf = [0u8; 4096];
-    send(request, &mut buf).is_some_and(|end| end <= 4096 && &buf[..end] == octets)
+    let mut buf = [0u8; REQUEST_LEN];
+    send(request, &mut buf).is_some_and(|end| end <= REQUEST_LEN && &buf[..end] == octets)
 }
 
 /// Datanodes, a word for each.

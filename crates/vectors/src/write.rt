@@ -16,6 +16,9 @@ const CHUNK: usize = 10;
 
 const FIRST: usize = 11;
 
+// The number of CRC-32C among the types of checksums.
+const CRC32C: u64 = 2;
+
 /// The numbers of a line: `STAGE MIN MAX LATEST CHUNK`.
 #[derive(Clone, Copy)]
 struct Numbers {
@@ -36,17 +39,21 @@ fn stage_of(word: &str) -> Result<Stage, LineError> {
     }
 }
 
-fn numbers_of(words: &[&str]) -> Result<Numbers, LineError> {
-    let [stage, min, max, latest, chunk] = words else {
-        return Err(LineError::Form);
-    };
-    Ok(Numbers {
-        stage: stage_of(stage)?,
-        min_bytes: min.parse()?,
-        max_bytes: max.parse()?,
-        latest_stamp: latest.parse()?,
-        chunk_size: chunk.parse()?,
-    })
+impl TryFrom<&[&str]> for Numbers {
+    type Error = LineError;
+
+    fn try_from(words: &[&str]) -> Result<Numbers, LineError> {
+        let [stage, min, max, latest, chunk] = words else {
+            return Err(LineError::Form);
+        };
+        Ok(Numbers {
+            stage: stage_of(stage)?,
+            min_bytes: min.parse()?,
+            max_bytes: max.parse()?,
+            latest_stamp: latest.parse()?,
+            chunk_size: chunk.parse()?,
+        })
+    }
 }
 
 // Whether the octets are read as a set up by the numbers of the request.
@@ -58,7 +65,7 @@ fn reads(request: &[u8], write: &WriteBlock<'_>) -> bool {
         max_bytes: write.max_bytes,
         latest_stamp: write.latest_stamp,
         stamp: write.header.block.generation_stamp,
-        checksum_type: 2,
+        checksum_type: CRC32C,
         chunk_size: u64::from(write.chunk_size),
     };
     Setup::read(request) == Some(expected)
@@ -101,7 +108,7 @@ pub fn agrees(heap: Global, words: &[&str]) -> Result<bool, LineError> {
         token: &token,
         client_name: &client_name,
     };
-    let numbers = numbers_of(&words[STAGE..CHUNK + 1])?;
+    let numbers = Numbers::try_from(&words[STAGE..CHUNK + 1])?;
     let first = node_of(heap, words[FIRST])?;
     let targets = nodes_of(heap, &words[FIRST + 1..last])?;
     let request = octets(heap, words[last])?;
