@@ -1,2 +1,5 @@
 pub mod Invariant
 pub mod Taken
+pub mod Keeps
+pub mod States
+pub mod Heeds
