@@ -1,8 +1,7 @@
 -- A writer that changes its state alone: it breaks or closes, and keeps what it has. Assumes nothing.
-use Rattle.std.proofs.Common.{◌≡◌, ℕ, Bool, true, false, List, ◌++◌, length, sym, refl, ap, ◌∙◌, subst}
+use Rattle.std.proofs.Common.{◌≡◌, ℕ, true, List, ◌++◌, length, refl, ap, ◌∙◌}
 use Rattle.std.proofs.lemmas.Bool.{false≢true}
 use Rattle.packet.specs.Frame.{Packet}
-use Rattle.held.specs.Slots.{packets, bytes_of}
 use Rattle.held.proofs.Packets.{bytes_same}
 use Rattle.chain.specs.Meaning.{Seen}
 use Rattle.writer.specs.declared.cause.Cause.{Cause}
@@ -10,10 +9,10 @@ use Rattle.writer.specs.declared.state.kind.State.{State}
 use Rattle.writer.specs.declared.state.kind.State.TheVariants.{Streaming, Finishing, Broken, Complete, Closed}
 use Rattle.writer.specs.Sizes.{capacity}
 use Rattle.writer.specs.States.{ended, listens}
-use Rattle.writer.specs.Views.{View, with_state, broken_by, held_in, filling_in}
+use Rattle.writer.specs.Views.{View, with_state, broken_by, filling_in}
 use Rattle.runs.specs.History.{History}
 use Rattle.runs.specs.Law.{Whole}
-use Rattle.runs.proofs.Invariant.{Flows, Sofar, Confirmed, Holds, IsOpen}
+use Rattle.runs.proofs.Invariant.{Sofar, Confirmed, Holds, IsOpen}
 use Rattle.runs.proofs.Keeps.{Keeps}
 
 -- which packet is the last does not change the bytes
