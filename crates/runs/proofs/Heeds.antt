@@ -32,7 +32,7 @@ pub heard_none : (h : History) (ps : List Packet) (r : Result Heeded Refusal) �
 heard_none h ps r e = rw (dropped_none ps, e, append-nil h.confirmed, append-nil h.answered) refl
 
 module _ (h : History) (v : View) (store : List ℕ) (x : Seen) (fit : Fit v (length store)) (holds : Holds h v store x) where
-  same : (y : Seen) (r : Result Heeded Refusal) (w : View) → y ≡ x → numbers r ≡ [] → Keeps h v w store x → Keeps (heard h x.pending y.pending r) v w store y
+  pub same : (y : Seen) (r : Result Heeded Refusal) (w : View) → y ≡ x → numbers r ≡ [] → Keeps h v w store x → Keeps (heard h x.pending y.pending r) v w store y
   same y r w e none k = rw (e, heard_none h x.pending r none) k
 
 -- an answer for another number than the first pending packet's changes nothing
@@ -112,10 +112,10 @@ module _ (h : History) (v : View) (store : List ℕ) (x y : Seen) (whole : liste
       (cases_lt 0 v.count)
 
   -- an answer that is not for the first held packet
-  other : (n : ℕ) → (0 < v.count → n ≢ v.first) → Passes (Some n) x.pending x y → y ≡ x
+  pub other : (n : ℕ) → (0 < v.count → n ≢ v.first) → Passes (Some n) x.pending x y → y ≡ x
   other n ne d = passed_by n x.pending x y (λ p qs e is. let f = first_pending p qs e in ne f.0 (is ∙ f.1)) d
 
-  first_small : 0 < v.count → v.first < 2 ^ 64 - 2
+  pub first_small : 0 < v.count → v.first < 2 ^ 64 - 2
   first_small some = omega (arith, fit.numbers, fit.limit, some_ones v.state)
 
   -- the first held packet is confirmed: the kept bytes and the history have it, and the writer and the pipeline do without
@@ -161,7 +161,7 @@ module _ (h : History) (v : View) (store : List ℕ) (x y : Seen) (whole : liste
     so_far_now : Sofar v.first h.confirmed
     so_far_now = so_far v.state v.first v.count h.confirmed whole holds.confirmed
 
-    confirm_keeps : (ended v.state && eqb v.count 1) ≡ false → Keeps (heard h x.pending y.pending (Ok (heeded.Confirmed n))) v (without_first v) store y
+    pub confirm_keeps : (ended v.state && eqb v.count 1) ≡ false → Keeps (heard h x.pending y.pending (Ok (heeded.Confirmed n))) v (without_first v) store y
     confirm_keeps isnt = record {
       holds = record {
         store_len = holds.store_len;
@@ -176,7 +176,7 @@ module _ (h : History) (v : View) (store : List ℕ) (x y : Seen) (whole : liste
       opens = λ o. o;
     }
 
-    complete_keeps : ended v.state ≡ true → v.count ≡ 1 → Keeps (heard h x.pending y.pending (Ok (heeded.Complete n))) v (with_state Complete (without_first v)) store y
+    pub complete_keeps : ended v.state ≡ true → v.count ≡ 1 → Keeps (heard h x.pending y.pending (Ok (heeded.Complete n))) v (with_state Complete (without_first v)) store y
     complete_keeps e one = record {
       holds = record {
         store_len = holds.store_len;

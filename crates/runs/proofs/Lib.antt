@@ -3,3 +3,4 @@ pub mod Taken
 pub mod Keeps
 pub mod States
 pub mod Heeds
+pub mod Hearing
