@@ -1,15 +1,15 @@
 -- The step of heed, for whatever came. Assumes nothing.
-use Rattle.std.proofs.Common.{◌≡◌, ℕ, ◌+◌, ◌-◌, ◌^◌, ◌<◌, ◌≤◌, Bool, true, false, cond, ◌&&◌, eqb, ltb, ◌≢◌, List, [], length, Some, None, Ok, Err, Option, Result, sym, refl, ap, ◌∙◌, subst, ⊎_elim, arith}
-use Rattle.std.proofs.lemmas.Bool.{cond-true, cond-false, cond_both, eq-eqb, ne_eqb, eqb-true, eqb-false, ltb-true, ltb-false, and_parts, and_from, lt-ltb, false≢true}
+use Rattle.std.proofs.Common.{◌≡◌, ℕ, ◌-◌, ◌^◌, ◌<◌, ◌≤◌, true, false, cond, ◌&&◌, eqb, ◌≢◌, List, [], length, Some, None, Ok, Err, Option, Result, sym, refl, ◌∙◌, subst, arith}
+use Rattle.std.proofs.lemmas.Bool.{cond-true, cond-false, cond_both, eq-eqb, eqb-true, ltb-true, and_parts, and_from, lt-ltb, false≢true}
 use Rattle.wire.specs.declared.field.DecodeError.{DecodeError}
 use Rattle.wire.specs.Read.{and_then}
 use Rattle.ack.specs.Acks.{AckFields, ack_of}
-use Rattle.ack.specs.declared.ack.Verdict.TheVariants.{Failed, HeartBeat, UnknownSeqno, Packet}
-use Rattle.ack.specs.Verdicts.{judged, number_if, verdict_of, verdict_on, passes}
+use Rattle.ack.specs.declared.ack.Verdict.TheVariants.{HeartBeat, UnknownSeqno, Packet}
+use Rattle.ack.specs.Verdicts.{judged, number_if, verdict_on, passes}
 use Rattle.ack.specs.Failures.{failed_nodes}
 use Rattle.chain.specs.Acts.{Came, nothing, lost, answer}
 use Rattle.chain.specs.Meaning.{Seen, Passes, Nexts}
-use Rattle.sending.specs.Asking.{Heard, heard_in, heard_of}
+use Rattle.sending.specs.Asking.{heard_in, heard_of}
 use Rattle.writer.specs.declared.admit.Call.TheVariants as call
 use Rattle.writer.specs.declared.admit.Lens.{Lens}
 use Rattle.writer.specs.declared.cause.Cause.TheVariants.{Link, Replies, Decoding}
@@ -21,7 +21,7 @@ use Rattle.writer.specs.declared.refusal.Refusal.TheVariants as refusal
 use Rattle.writer.specs.declared.state.kind.State.{State}
 use Rattle.writer.specs.declared.state.kind.State.TheVariants.{Streaming, Finishing, Broken, Complete, Closed}
 use Rattle.writer.specs.Admits.{refusal_for, by_room, by_state, or_else}
-use Rattle.writer.specs.Heeding.{awaits, if_last, on_packet, on_verdict, on_heard, decided, answer_of, after, Hears, Heeds}
+use Rattle.writer.specs.Heeding.{awaits, on_packet, on_verdict, on_heard, answer_of, after, Heeds}
 use Rattle.writer.specs.States.{ended, listens}
 use Rattle.writer.specs.Views.{View}
 use Rattle.runs.specs.History.{History, numbers, heard}
@@ -46,9 +46,9 @@ module _ (h : History) (v : View) (store : List ℕ) (x y : Seen) (whole : liste
   if_packet n d =
       cond_both (awaits v n) _ _ Follows
       (λ e. let both = and_parts _ _ e in let some = ltb-true 0 v.count both.0 in let is = eqb-true n v.first both.1 in
-          cond_both (ended v.state && eqb v.count 1) _ _ Follows
-          (λ l. let parts = and_parts _ _ l in complete_keeps h v store x y whole fit holds n some is d parts.0 (eqb-true v.count 1 parts.1))
-          (λ l. confirm_keeps h v store x y whole fit holds n some is d l))
+      cond_both (ended v.state && eqb v.count 1) _ _ Follows
+      (λ l. let parts = and_parts _ _ l in complete_keeps h v store x y whole fit holds n some is d parts.0 (eqb-true v.count 1 parts.1))
+      (λ l. confirm_keeps h v store x y whole fit holds n some is d l))
       (λ e. quiet (decision.Close refusal.Unexpected) (other h v store x y whole fit holds n (unawaited n e) d) refl (closes h v store x holds))
 
   -- no held packet has a number that is kept for another meaning
@@ -60,8 +60,8 @@ module _ (h : History) (v : View) (store : List ℕ) (x y : Seen) (whole : liste
       cond_both (eqb n (2 ^ 64 - 1)) _ _ (λ z. Follows (on_verdict v z))
       (λ e. let is = eqb-true n (2 ^ 64 - 1) e in quiet decision.Beat (special n (omega (arith, is)) d) refl (stays h v store x holds))
       (λ e. cond_both (eqb n (2 ^ 64 - 2)) _ _ (λ z. Follows (on_verdict v z))
-          (λ f. let is = eqb-true n (2 ^ 64 - 2) f in quiet (decision.Close refusal.UnknownSeqno) (special n (omega (arith, is)) d) refl (closes h v store x holds))
-          (λ f. if_packet n d))
+      (λ f. let is = eqb-true n (2 ^ 64 - 2) f in quiet (decision.Close refusal.UnknownSeqno) (special n (omega (arith, is)) d) refl (closes h v store x holds))
+      (λ f. if_packet n d))
 
   if_acked : (a : AckFields) → Passes (number_if (Ok a)) x.pending x y → Follows (on_verdict v (judged a))
   if_acked a d =

@@ -1,6 +1,6 @@
 -- The step of heed: what an answer does to the pipeline and what the writer makes of it fit together. Assumes nothing.
 use Rattle.std.proofs.Common.{◌≡◌, ℕ, zero, suc, ◌+◌, ◌-◌, ◌^◌, ◌<◌, ◌≤◌, Bool, true, false, ◌&&◌, eqb, ◌≢◌, List, [], ◌∷◌, ◌++◌, length, Some, Ok, Result, sym, refl, ap, ◌∙◌, subst, ⊎_elim, arith, length-append, append_assoc, ◌%◌, not-suc-le-zero, add-one, sub-one}
-use Rattle.std.proofs.lemmas.Bool.{cond-true, cond-false, eq-eqb, ne_eqb, cases_lt, false≢true}
+use Rattle.std.proofs.lemmas.Bool.{cond-true, cond-false, eq-eqb, ne_eqb, cases_lt}
 use Rattle.std.proofs.lemmas.List.{append-nil, map-append, replicate_more}
 use Rattle.packet.specs.Frame.{Packet}
 use Rattle.held.specs.Slots.{below, packets, bytes_of, packet_of, size_at, slot_of, last_at}
@@ -16,9 +16,9 @@ use Rattle.writer.specs.States.{ended, listens, last_ones}
 use Rattle.writer.specs.Views.{View, with_state, without_first, held_in, filling_in}
 use Rattle.runs.specs.History.{History, dropped, numbers, heard}
 use Rattle.runs.specs.Law.{seqnos, lasts}
-use Rattle.runs.proofs.Invariant.{Fit, Flows, Sofar, Confirmed, Holds}
+use Rattle.runs.proofs.Invariant.{Fit, Sofar, Holds}
 use Rattle.runs.proofs.Keeps.{Keeps}
-use Rattle.runs.proofs.States.{so_far, is_open, whole_as}
+use Rattle.runs.proofs.States.{so_far, is_open, whole_as, flowing, flows_as, confirmed_as}
 
 -- where nothing has left the pending packets and no number was answered, the history is as it was
 pub dropped_none : (ps : List Packet) → dropped ps ps ≡ []
@@ -57,13 +57,6 @@ module _ (v : View) (store : List ℕ) (o : ℕ) where
   pub held_none : v.count ≤ 0 → held_in v store o ≡ []
   held_none none = packets_none v.terms.size.chunk (capacity v.terms) v.terms.slots v.sizes store (ended v.state) v.count v.first o none
 
-pub flowing : (s : State) (ps qs : List Packet) → listens s ≡ true → Flows s ps qs → ps ≡ qs
-flowing Streaming ps qs e f = f
-flowing Finishing ps qs e f = f
-flowing (Broken cause finished) ps qs e f = absurd (false≢true e)
-flowing Complete ps qs e f = absurd (false≢true e)
-flowing Closed ps qs e f = absurd (false≢true e)
-
 not_last : (e : Bool) (c : ℕ) → 0 < c → (e && eqb c 1) ≡ false → last_at e (c - 1) ≡ false
 not_last e zero some isnt = absurd (not-suc-le-zero some)
 not_last true (suc zero) some isnt = isnt
@@ -77,21 +70,6 @@ some_ones (Broken cause true) = omega arith
 some_ones (Broken cause false) = omega arith
 some_ones Complete = omega arith
 some_ones Closed = omega arith
-
--- a pipeline that is whole has all held packets pending, and none of those before them was the last
-flows_as : (s : State) (ps qs : List Packet) → ps ≡ qs → Flows s ps qs
-flows_as Streaming ps qs e = e
-flows_as Finishing ps qs e = e
-flows_as (Broken cause finished) ps qs e = tt
-flows_as Complete ps qs e = tt
-flows_as Closed ps qs e = tt
-
-confirmed_as : (s : State) (first count : ℕ) (ps : List Packet) → listens s ≡ true → Sofar first ps → Confirmed s first count ps
-confirmed_as Streaming first count ps e c = c
-confirmed_as Finishing first count ps e c = c
-confirmed_as (Broken cause finished) first count ps e c = c
-confirmed_as Complete first count ps e c = absurd (false≢true e)
-confirmed_as Closed first count ps e c = absurd (false≢true e)
 
 head_number : List Packet → ℕ
 head_number [] = 0

@@ -4,3 +4,4 @@ pub mod Keeps
 pub mod States
 pub mod Heeds
 pub mod Hearing
+pub mod Opened

@@ -12,7 +12,7 @@ use Rattle.writer.specs.States.{ended, listens}
 use Rattle.writer.specs.Views.{View, with_state, broken_by, filling_in}
 use Rattle.runs.specs.History.{History}
 use Rattle.runs.specs.Law.{Whole}
-use Rattle.runs.proofs.Invariant.{Sofar, Confirmed, Holds, IsOpen}
+use Rattle.runs.proofs.Invariant.{Flows, Sofar, Confirmed, Holds, IsOpen}
 use Rattle.runs.proofs.Keeps.{Keeps}
 
 -- which packet is the last does not change the bytes
@@ -49,6 +49,28 @@ is_open Finishing e = tt
 is_open (Broken cause finished) e = tt
 is_open Complete e = tt
 is_open Closed e = absurd (false≢true e)
+
+pub flowing : (s : State) (ps qs : List Packet) → listens s ≡ true → Flows s ps qs → ps ≡ qs
+flowing Streaming ps qs e f = f
+flowing Finishing ps qs e f = f
+flowing (Broken cause finished) ps qs e f = absurd (false≢true e)
+flowing Complete ps qs e f = absurd (false≢true e)
+flowing Closed ps qs e f = absurd (false≢true e)
+
+-- a pipeline that is whole has all held packets pending, and none of those before them was the last
+pub flows_as : (s : State) (ps qs : List Packet) → ps ≡ qs → Flows s ps qs
+flows_as Streaming ps qs e = e
+flows_as Finishing ps qs e = e
+flows_as (Broken cause finished) ps qs e = tt
+flows_as Complete ps qs e = tt
+flows_as Closed ps qs e = tt
+
+pub confirmed_as : (s : State) (first count : ℕ) (ps : List Packet) → listens s ≡ true → Sofar first ps → Confirmed s first count ps
+confirmed_as Streaming first count ps e c = c
+confirmed_as Finishing first count ps e c = c
+confirmed_as (Broken cause finished) first count ps e c = c
+confirmed_as Complete first count ps e c = absurd (false≢true e)
+confirmed_as Closed first count ps e c = absurd (false≢true e)
 
 pub breaks : (h : History) (v : View) (cause : Cause) (store : List ℕ) (x : Seen) → listens v.state ≡ true → Holds h v store x → Keeps h v (broken_by cause v) store x
 breaks h v cause store x whole k = record {
