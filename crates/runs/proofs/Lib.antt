@@ -5,3 +5,4 @@ pub mod States
 pub mod Heeds
 pub mod Hearing
 pub mod Opened
+pub mod Lawful
