@@ -6,3 +6,4 @@ pub mod Heeds
 pub mod Hearing
 pub mod Opened
 pub mod Lawful
+pub mod Every

@@ -1,0 +1,78 @@
+-- Every run keeps the invariant, so that the law holds at its end. Assumes nothing.
+use Rattle.std.proofs.Common.{◌≡◌, ℕ, Bool, List, length, None, Some, Option, Result, ◌≢◌, sym, refl, ap, ◌∙◌, subst}
+use Rattle.proto.specs.declared.datanode.Datanode.{Datanode}
+use Rattle.chain.specs.Acts.{Came}
+use Rattle.chain.specs.Meaning.{Seen, SetsUp, Puts, Nexts}
+use Rattle.namenode.specs.Entries.{Entry, Ask, Offer, Updates}
+use Rattle.writer.specs.declared.admit.Call.{Call}
+use Rattle.writer.specs.declared.admit.Call.TheVariants as call
+use Rattle.writer.specs.declared.beat.Beat.{Beat}
+use Rattle.writer.specs.declared.finish.Finished.{Finished}
+use Rattle.writer.specs.declared.heed.Heeded.{Heeded}
+use Rattle.writer.specs.declared.opening.Opening.{Opening}
+use Rattle.writer.specs.declared.recover.Recovered.{Recovered}
+use Rattle.writer.specs.declared.refusal.Refusal.{Refusal}
+use Rattle.writer.specs.declared.state.Writer.{Writer}
+use Rattle.writer.specs.declared.write.Written.{Written}
+use Rattle.writer.specs.Admits.{refusal_for, lens_of}
+use Rattle.writer.specs.Beating.{Beats}
+use Rattle.writer.specs.Finishing.{finish_refusal, Finishes}
+use Rattle.writer.specs.Heeding.{Heeds}
+use Rattle.writer.specs.Recovering.{Recovers}
+use Rattle.writer.specs.Views.{View, view_of}
+use Rattle.writer.specs.Writing.{Wrote}
+use Rattle.writer.proofs.Admitted.{refused_store}
+use Rattle.runs.specs.Begins.{Begins}
+use Rattle.runs.specs.History.{History, wrote, heard, rebuilt}
+use Rattle.runs.specs.Answered.{set_in}
+use Rattle.runs.specs.Law.{Law}
+use Rattle.runs.specs.Runs.{Point, Lends, Run, own, other, here, writes, heeds, beats, finishes, recovers}
+use Rattle.runs.proofs.Hearing.{heard_keeps, listens_heed}
+use Rattle.runs.proofs.Invariant.{Fit, fit_of, Holds, Named, IsOpen, Entered}
+use Rattle.runs.proofs.Keeps.{Keeps}
+use Rattle.runs.proofs.Lawful.{lawful}
+use Rattle.runs.proofs.Opened.{opened}
+
+module _ {C N : Type 0} (sets : C → Datanode → List ℕ → ℕ → Option (List ℕ) → C → Type 0) (puts : C → List ℕ → Bool → C → Type 0) (nexts : C → Came → C → Type 0) (transfers : C → Datanode → List ℕ → Option (List ℕ) → C → Type 0)
+    (lists : N → Ask → Option Offer → N → Type 0) (stamps : N → ℕ → Option (ℕ × List ℕ) → N → Type 0) (updates : N → Entry → Bool → N → Type 0) (seen : C → Seen) (entry : N → Entry)
+    (setting : (a b : C) (node : Datanode) (request : List ℕ) (least : ℕ) (came : Option (List ℕ)) → sets a node request least came b → SetsUp request least came (seen a) (seen b))
+    (putting : (a b : C) (frame : List ℕ) (taken : Bool) → puts a frame taken b → Puts frame taken (seen a) (seen b))
+    (answering : (a b : C) (came : Came) → nexts a came b → Nexts came (seen a) (seen b))
+    (transferring : (a b : C) (node : Datanode) (request : List ℕ) (came : Option (List ℕ)) → transfers a node request came b → seen b ≡ seen a)
+    (listing : (a b : N) (asked : Ask) (came : Option Offer) → lists a asked came b → entry b ≡ entry a)
+    (stamping : (a b : N) (size : ℕ) (came : Option (ℕ × List ℕ)) → stamps a size came b → entry b ≡ entry a)
+    (updating : (a b : N) (new : Entry) (accepted : Bool) → updates a new accepted b → Updates new accepted (entry a) (entry b)) where
+  record Invariant (p : Point C N) : Type 0 where
+    holds : Holds p.history (view_of p.writer) p.store (seen p.link)
+    entered : Entered (view_of p.writer) p.history.chain (entry p.namenode)
+
+  fit : (p : Point C N) → Invariant p → Fit (view_of p.writer) (length p.store)
+  fit p i = fit_of p.writer (length p.store) i.holds.store_len
+
+  -- a call that the namenode has no part in
+  from_keeps : (q : Point C N) (i : Invariant q) (h : History) (w : Writer) (store : List ℕ) (c : C) → h.chain ≡ q.history.chain → Keeps h (view_of q.writer) (view_of w) store (seen c)
+      → Invariant (record { history = h; writer = w; store = store; link = c; namenode = q.namenode })
+  from_keeps q i h w store c e k = record {
+    holds = k.holds;
+    entered = λ z. let n = i.entered (k.opens z) in record { stamp_is = n.stamp_is ∙ sym k.stamp; ids = rw e n.ids; storages = rw e n.storages };
+  }
+
+  -- the writer's own store has the length that was settled, so that a call on another is refused
+  module _ (q : Point C N) (i : Invariant q) where
+    v : View
+    v = view_of q.writer
+
+    refused : (given frame request answer : List ℕ) (c : Call) → length given ≢ length q.store → refusal_for (view_of q.writer) c (lens_of given frame request answer) ≡ None → ⊥
+    refused given frame request answer c ne e = refused_store (view_of q.writer) c (lens_of given frame request answer) (λ is. ne (is ∙ sym i.holds.store_len)) e
+
+    heeds_step : (given frame request answer answer' store' : List ℕ) (r : Result Heeded Refusal) (w : Writer) (c : C) → Lends q.store store' given given
+        → Heeds nexts (refusal_for (view_of q.writer) call.Heed (lens_of given frame request answer)) (view_of q.writer) q.link answer r (view_of w) c answer'
+        → Invariant (record { history = heard q.history (seen q.link).pending (seen c).pending r; writer = w; store = store'; link = c; namenode = q.namenode })
+    heeds_step given frame request answer answer' store' r w c lends d =
+        let o = refusal_for (view_of q.writer) call.Heed (lens_of given frame request answer) in
+        let k = heard_keeps nexts seen answering q.history o (view_of q.writer) (view_of w) q.store answer answer' q.link c r (listens_heed (view_of q.writer) _) (fit q i) i.holds d in
+        from_keeps q i (heard q.history (seen q.link).pending (seen c).pending r) w store' c refl (subst (λ (s : List ℕ). Keeps (heard q.history (seen q.link).pending (seen c).pending r) (view_of q.writer) (view_of w) s (seen c)) (same_store q.store store' given lends) k)
+      where
+        same_store : (store store' given : List ℕ) → Lends store store' given given → store ≡ store'
+        same_store store store' given own = refl
+        same_store store store' given (other ne) = refl
