@@ -1,3 +1,4 @@
 pub mod Invariant
 pub mod Taken
 pub mod Replays
+pub mod Reopened
