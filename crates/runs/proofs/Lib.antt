@@ -2,3 +2,4 @@ pub mod Invariant
 pub mod Taken
 pub mod Replays
 pub mod Reopened
+pub mod Recovers

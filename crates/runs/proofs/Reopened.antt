@@ -1,5 +1,5 @@
 -- What a writer, its pipeline and the namenode's entry are after a recovery: closed, or open again. Assumes nothing.
-use Rattle.std.proofs.Common.{◌≡◌, ℕ, Bool, true, false, List, [], ◌++◌, length, Some, None, Option, sym, refl, ap, ◌∙◌, subst}
+use Rattle.std.proofs.Common.{◌≡◌, ℕ, Bool, true, false, List, ◌++◌, length, Some, None, Option, sym, refl, ap, ◌∙◌}
 use Rattle.std.proofs.lemmas.Option.{none-some}
 use Rattle.packet.specs.Frame.{Packet}
 use Rattle.proto.specs.declared.datanode.Datanode.{Datanode}
@@ -21,6 +21,7 @@ use Rattle.writer.proofs.Admitted.{fits_state}
 use Rattle.runs.specs.History.{History, rebuilt}
 use Rattle.runs.proofs.Invariant.{Holds, Flows, Sofar, Confirmed, Entered}
 
+-- what is true after a recovery: the history's chain is that of a set up that was answered
 pub record Rebuilt (h : History) (v w : View) (store : List ℕ) (x : Seen) (e : Entry) : Type 0 where
   pub holds : Holds h w store x
   pub entered : Entered w h.chain e
@@ -60,30 +61,32 @@ confirmed_on None true first count ps c = c
 confirmed_on None false first count ps c = c
 confirmed_on (Some n) finished first count ps c = c
 
+-- the held packets, of a block that is finished or not
+abbrev held_as : View → List ℕ → Bool → ℕ → List Packet
+held_as v store finished o = packets (chunk_of v) (capacity v.terms) v.terms.slots v.sizes store finished v.count v.first o
+
 -- the far end keeps what it kept
 module _ (h : History) (v : View) (store : List ℕ) (x y : Seen) (s : Holds h v store x) (same : y.kept ≡ x.kept) where
   -- whether the block is finished does not change the bytes
-  whole_in : (finished : Bool)
-      → y.kept ++ (bytes_of (packets (chunk_of v) (capacity v.terms) v.terms.slots v.sizes store finished v.count v.first (length y.kept)) ++ filling_in v store) ≡ h.initial ++ h.accepted
+  whole_in : (finished : Bool) → y.kept ++ (bytes_of (held_as v store finished (length y.kept)) ++ filling_in v store) ≡ h.initial ++ h.accepted
   whole_in finished =
-      let ps : Bool → ℕ → List Packet = λ b o. packets (chunk_of v) (capacity v.terms) v.terms.slots v.sizes store b v.count v.first o in
-      ap (λ (l : List ℕ). l ++ (bytes_of (ps finished (length l)) ++ filling_in v store)) same
+      ap (λ (l : List ℕ). l ++ (bytes_of (held_as v store finished (length l)) ++ filling_in v store)) same
       ∙ ap (λ (l : List ℕ). x.kept ++ (l ++ filling_in v store)) (bytes_same (chunk_of v) (capacity v.terms) v.terms.slots v.sizes store finished (ended v.state) v.count v.first (length x.kept) (length x.kept))
       ∙ s.whole
 
   -- of a closed writer the bytes alone are known
-  pub shut : (set : Option (List Datanode)) (e : Entry) → Rebuilt (rebuilt h set) v (with_state Closed v) store y e
-  shut (Some chain) e = record {
-    holds = record { store_len = s.store_len; whole = whole_in false; len = s.len; flows = tt; told = s.told; confirmed = tt };
-    entered = λ is. absurd is;
-    terms = refl;
-  }
-  shut None e = record {
+  shut_on : (chain : List Datanode) (e : Entry) → Rebuilt (rebuilt h (Some chain)) v (with_state Closed v) store y e
+  shut_on chain e = record {
     holds = record { store_len = s.store_len; whole = whole_in false; len = s.len; flows = tt; told = s.told; confirmed = tt };
     entered = λ is. absurd is;
     terms = refl;
   }
 
+  pub shut : (set : Option (List Datanode)) (e : Entry) → Rebuilt (rebuilt h set) v (with_state Closed v) store y e
+  shut (Some chain) e = shut_on chain e
+  shut None e = shut_on h.chain e
+
+  -- all held packets were put again, or one was lost, and the namenode has the new stamp and datanodes
   pub open_again : (lost : Option ℕ) (stamp : ℕ) (token : Token) (chain : List Datanode) (time : ℕ) (e : Entry) → IsBrokenState v.state
       → (lost ≡ None → y.pending ≡ held_in v store (length x.kept)) → e ≡ entry_for stamp v.len chain
       → Rebuilt (rebuilt h (Some chain)) v (restored lost stamp token chain time v) store y e
@@ -106,5 +109,4 @@ module _ (h : History) (v : View) (store : List ℕ) (x y : Seen) (s : Holds h v
     where
       held_same : held_in v store (length x.kept) ≡ held_in (restored lost stamp token chain time v) store (length y.kept)
       held_same =
-          let ps : Bool → ℕ → List Packet = λ b o. packets (chunk_of v) (capacity v.terms) v.terms.slots v.sizes store b v.count v.first o in
-          ap (λ (b : Bool). ps b (length x.kept)) (sym (ended_on lost (ended v.state))) ∙ ap (λ (l : List ℕ). ps (ended (state_on lost (ended v.state))) (length l)) (sym same)
+          ap (λ (b : Bool). held_as v store b (length x.kept)) (sym (ended_on lost (ended v.state))) ∙ ap (λ (l : List ℕ). held_as v store (ended (state_on lost (ended v.state))) (length l)) (sym same)
