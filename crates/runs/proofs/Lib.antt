@@ -1,5 +1,9 @@
 pub mod Invariant
 pub mod Taken
+pub mod Keeps
+pub mod States
+pub mod Heeds
+pub mod Hearing
 pub mod Replays
 pub mod Reopened
 pub mod Recovers

@@ -5,7 +5,6 @@ use Rattle.packet.specs.Frame.{Packet}
 use Rattle.proto.specs.declared.datanode.Datanode.{Datanode}
 use Rattle.proto.specs.declared.token.Token.{Token}
 use Rattle.held.specs.Slots.{packets, bytes_of}
-use Rattle.held.proofs.Packets.{bytes_same}
 use Rattle.chain.specs.Meaning.{Seen}
 use Rattle.namenode.specs.Entries.{Entry, entry_for}
 use Rattle.writer.specs.declared.admit.Call.TheVariants as call
@@ -19,7 +18,9 @@ use Rattle.writer.specs.States.{ended, IsBrokenState}
 use Rattle.writer.specs.Views.{View, chunk_of, with_state, held_in, filling_in}
 use Rattle.writer.proofs.Admitted.{fits_state}
 use Rattle.runs.specs.History.{History, rebuilt}
+use Rattle.runs.specs.Law.{Whole}
 use Rattle.runs.proofs.Invariant.{Holds, Flows, Sofar, Confirmed, Entered}
+use Rattle.runs.proofs.States.{whole_as}
 
 -- what is true after a recovery: the history's chain is that of a set up that was answered
 pub record Rebuilt (h : History) (v w : View) (store : List ℕ) (x : Seen) (e : Entry) : Type 0 where
@@ -38,12 +39,12 @@ recovers_broken Closed e = none-some _ (sym e)
 pub breaks_recover : (v : View) (l : Lens) → refusal_for v call.Recover l ≡ None → IsBrokenState v.state
 breaks_recover v l e = recovers_broken v.state (fits_state v call.Recover l e)
 
-sofar : (s : State) (first count : ℕ) (ps : List Packet) → IsBrokenState s → Confirmed s first count ps → Sofar first ps
-sofar Streaming first count ps b c = absurd b
-sofar Finishing first count ps b c = absurd b
-sofar (Broken cause finished) first count ps b c = c
-sofar Complete first count ps b c = absurd b
-sofar Closed first count ps b c = absurd b
+broken_so_far : (s : State) (first count : ℕ) (ps : List Packet) → IsBrokenState s → Confirmed s first count ps → Sofar first ps
+broken_so_far Streaming first count ps b c = absurd b
+broken_so_far Finishing first count ps b c = absurd b
+broken_so_far (Broken cause finished) first count ps b c = c
+broken_so_far Complete first count ps b c = absurd b
+broken_so_far Closed first count ps b c = absurd b
 
 -- the state that a recovery leaves
 ended_on : (lost : Option ℕ) (finished : Bool) → ended (state_on lost finished) ≡ finished
@@ -61,23 +62,15 @@ confirmed_on None true first count ps c = c
 confirmed_on None false first count ps c = c
 confirmed_on (Some n) finished first count ps c = c
 
--- the held packets, of a block that is finished or not
-abbrev held_as : View → List ℕ → Bool → ℕ → List Packet
-held_as v store finished o = packets (chunk_of v) (capacity v.terms) v.terms.slots v.sizes store finished v.count v.first o
-
 -- the far end keeps what it kept
 module _ (h : History) (v : View) (store : List ℕ) (x y : Seen) (s : Holds h v store x) (same : y.kept ≡ x.kept) where
-  -- whether the block is finished does not change the bytes
-  whole_in : (finished : Bool) → y.kept ++ (bytes_of (held_as v store finished (length y.kept)) ++ filling_in v store) ≡ h.initial ++ h.accepted
-  whole_in finished =
-      ap (λ (l : List ℕ). l ++ (bytes_of (held_as v store finished (length l)) ++ filling_in v store)) same
-      ∙ ap (λ (l : List ℕ). x.kept ++ (l ++ filling_in v store)) (bytes_same (chunk_of v) (capacity v.terms) v.terms.slots v.sizes store finished (ended v.state) v.count v.first (length x.kept) (length x.kept))
-      ∙ s.whole
+  whole_in : (state : State) → Whole h (with_state state v) store y
+  whole_in state = ap (λ (l : List ℕ). l ++ (bytes_of (held_in (with_state state v) store (length l)) ++ filling_in v store)) same ∙ whole_as h v state store x s.whole
 
   -- of a closed writer the bytes alone are known
   shut_on : (chain : List Datanode) (e : Entry) → Rebuilt (rebuilt h (Some chain)) v (with_state Closed v) store y e
   shut_on chain e = record {
-    holds = record { store_len = s.store_len; whole = whole_in false; len = s.len; flows = tt; told = s.told; confirmed = tt };
+    holds = record { store_len = s.store_len; whole = whole_in Closed; len = s.len; flows = tt; told = s.told; confirmed = tt };
     entered = λ is. absurd is;
     terms = refl;
   }
@@ -93,11 +86,11 @@ module _ (h : History) (v : View) (store : List ℕ) (x y : Seen) (s : Holds h v
   open_again lost stamp token chain time e broken flows is = record {
     holds = record {
       store_len = s.store_len;
-      whole = whole_in (ended (state_on lost (ended v.state)));
+      whole = whole_in (state_on lost (ended v.state));
       len = s.len;
       flows = flows_on lost (ended v.state) y.pending _ (λ none. flows none ∙ held_same);
       told = s.told;
-      confirmed = confirmed_on lost (ended v.state) v.first v.count h.confirmed (sofar v.state v.first v.count h.confirmed broken s.confirmed);
+      confirmed = confirmed_on lost (ended v.state) v.first v.count h.confirmed (broken_so_far v.state v.first v.count h.confirmed broken s.confirmed);
     };
     entered = λ still. record {
       stamp_is = ap (λ (z : Entry). z.stamp) is;
@@ -109,4 +102,5 @@ module _ (h : History) (v : View) (store : List ℕ) (x y : Seen) (s : Holds h v
     where
       held_same : held_in v store (length x.kept) ≡ held_in (restored lost stamp token chain time v) store (length y.kept)
       held_same =
-          ap (λ (b : Bool). held_as v store b (length x.kept)) (sym (ended_on lost (ended v.state))) ∙ ap (λ (l : List ℕ). held_as v store (ended (state_on lost (ended v.state))) (length l)) (sym same)
+          ap (λ (b : Bool). packets (chunk_of v) (capacity v.terms) v.terms.slots v.sizes store b v.count v.first (length x.kept)) (sym (ended_on lost (ended v.state)))
+          ∙ ap (λ (l : List ℕ). held_in (restored lost stamp token chain time v) store (length l)) (sym same)

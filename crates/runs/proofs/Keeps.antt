@@ -1,0 +1,12 @@
+-- What a call keeps: the invariant, and what was settled at the opening. Assumes nothing.
+use Rattle.std.proofs.Common.{◌≡◌, ℕ, List}
+use Rattle.chain.specs.Meaning.{Seen}
+use Rattle.writer.specs.Views.{View}
+use Rattle.runs.specs.History.{History}
+use Rattle.runs.proofs.Invariant.{Holds, IsOpen}
+
+pub record Keeps (h : History) (v : View) (w : View) (store : List ℕ) (x : Seen) : Type 0 where
+  pub holds : Holds h w store x
+  pub stamp : w.stamp ≡ v.stamp
+  pub terms : w.terms ≡ v.terms
+  pub opens : IsOpen w.state → IsOpen v.state
