@@ -7,3 +7,6 @@ pub mod Hearing
 pub mod Opened
 pub mod Lawful
 pub mod Every
+pub mod Replays
+pub mod Reopened
+pub mod Recovers
