@@ -1,5 +1,5 @@
 -- Every run keeps the invariant, so that the law holds at its end. Assumes nothing.
-use Rattle.std.proofs.Common.{◌≡◌, ℕ, Bool, List, length, None, Some, Option, Result, ◌≢◌, sym, refl, ap, ◌∙◌, subst}
+use Rattle.std.proofs.Common.{◌≡◌, ℕ, Bool, List, length, None, Some, Option, Result, ◌≢◌, ◌⊎◌, inl, inr, ⊎_elim, sym, refl, ap, ◌∙◌, subst}
 use Rattle.proto.specs.declared.datanode.Datanode.{Datanode}
 use Rattle.chain.specs.Acts.{Came}
 use Rattle.chain.specs.Meaning.{Seen, SetsUp, Puts, Nexts}
@@ -18,7 +18,7 @@ use Rattle.writer.specs.Admits.{refusal_for, lens_of}
 use Rattle.writer.specs.Beating.{Beats}
 use Rattle.writer.specs.Finishing.{finish_refusal, Finishes}
 use Rattle.writer.specs.Heeding.{Heeds}
-use Rattle.writer.specs.Recovering.{Recovers}
+use Rattle.writer.specs.Recovering.{Site, Recovers}
 use Rattle.writer.specs.Views.{View, view_of}
 use Rattle.writer.specs.Writing.{Wrote}
 use Rattle.writer.proofs.Admitted.{refused_store}
@@ -32,6 +32,18 @@ use Rattle.runs.proofs.Invariant.{Fit, fit_of, Holds, Named, IsOpen, Entered}
 use Rattle.runs.proofs.Keeps.{Keeps}
 use Rattle.runs.proofs.Lawful.{lawful}
 use Rattle.runs.proofs.Opened.{opened}
+use Rattle.runs.proofs.Recovers.{recovered_keeps}
+use Rattle.runs.proofs.Reopened.{Rebuilt, breaks_recover}
+
+-- the writer's own store, or another, which leaves it
+lent : {store store' given given' : List ℕ} → Lends store store' given given' → ((given ≡ store) × (given' ≡ store')) ⊎ ((store' ≡ store) × (length given ≢ length store))
+lent own = inl (refl, refl)
+lent (other ne) = inr (refl, ne)
+
+-- a store that is only read stays
+read_only : {store store' given : List ℕ} → Lends store store' given given → store' ≡ store
+read_only own = refl
+read_only (other ne) = refl
 
 module _ {C N : Type 0} (sets : C → Datanode → List ℕ → ℕ → Option (List ℕ) → C → Type 0) (puts : C → List ℕ → Bool → C → Type 0) (nexts : C → Came → C → Type 0) (transfers : C → Datanode → List ℕ → Option (List ℕ) → C → Type 0)
     (lists : N → Ask → Option Offer → N → Type 0) (stamps : N → ℕ → Option (ℕ × List ℕ) → N → Type 0) (updates : N → Entry → Bool → N → Type 0) (seen : C → Seen) (entry : N → Entry)
@@ -59,9 +71,6 @@ module _ {C N : Type 0} (sets : C → Datanode → List ℕ → ℕ → Option (
 
   -- the writer's own store has the length that was settled, so that a call on another is refused
   module _ (q : Point C N) (i : Invariant q) where
-    v : View
-    v = view_of q.writer
-
     refused : (given frame request answer : List ℕ) (c : Call) → length given ≢ length q.store → refusal_for (view_of q.writer) c (lens_of given frame request answer) ≡ None → ⊥
     refused given frame request answer c ne e = refused_store (view_of q.writer) c (lens_of given frame request answer) (λ is. ne (is ∙ sym i.holds.store_len)) e
 
@@ -69,10 +78,35 @@ module _ {C N : Type 0} (sets : C → Datanode → List ℕ → ℕ → Option (
         → Heeds nexts (refusal_for (view_of q.writer) call.Heed (lens_of given frame request answer)) (view_of q.writer) q.link answer r (view_of w) c answer'
         → Invariant (record { history = heard q.history (seen q.link).pending (seen c).pending r; writer = w; store = store'; link = c; namenode = q.namenode })
     heeds_step given frame request answer answer' store' r w c lends d =
-        let o = refusal_for (view_of q.writer) call.Heed (lens_of given frame request answer) in
-        let k = heard_keeps nexts seen answering q.history o (view_of q.writer) (view_of w) q.store answer answer' q.link c r (listens_heed (view_of q.writer) _) (fit q i) i.holds d in
-        from_keeps q i (heard q.history (seen q.link).pending (seen c).pending r) w store' c refl (subst (λ (s : List ℕ). Keeps (heard q.history (seen q.link).pending (seen c).pending r) (view_of q.writer) (view_of w) s (seen c)) (same_store q.store store' given lends) k)
-      where
-        same_store : (store store' given : List ℕ) → Lends store store' given given → store ≡ store'
-        same_store store store' given own = refl
-        same_store store store' given (other ne) = refl
+        let l = lens_of given frame request answer in
+        let h = heard q.history (seen q.link).pending (seen c).pending r in
+        let k = heard_keeps nexts seen answering q.history (refusal_for (view_of q.writer) call.Heed l) (view_of q.writer) (view_of w) q.store answer answer' q.link c r (listens_heed (view_of q.writer) l) (fit q i) i.holds d in
+        from_keeps q i h w store' c refl (subst (λ (s : List ℕ). Keeps h (view_of q.writer) (view_of w) s (seen c)) (sym (read_only lends)) k)
+
+    from_rebuilt : (h : History) (w : Writer) (c : C) (n : N) {store store' : List ℕ} → Rebuilt h (view_of q.writer) (view_of w) store (seen c) (entry n) → store ≡ store'
+        → Invariant (record { history = h; writer = w; store = store'; link = c; namenode = n })
+    from_rebuilt h w c n k e = record { holds = subst (λ (z : List ℕ). Holds h (view_of w) z (seen c)) e k.holds; entered = k.entered }
+
+    -- a recovery that is refused leaves everything
+    unrecovered : (o : Option Refusal) → (o ≡ None → ⊥) → (given : List ℕ) (time : ℕ) (s t : Site C N) (r : Result Recovered Refusal) (w : View) → s.link ≡ q.link → s.namenode ≡ q.namenode
+        → (d : Recovers sets puts transfers lists stamps updates o (view_of q.writer) given time s r w t)
+        → Rebuilt (rebuilt q.history (set_in sets puts transfers lists stamps updates (view_of q.writer) given time r w t o s d)) (view_of q.writer) w q.store (seen t.link) (entry t.namenode)
+    unrecovered None never given time s t r w el en d = absurd (never refl)
+    unrecovered (Some e) never given time s t r w el en d = rw (d.1, d.2, el, en) (record { holds = i.holds; entered = i.entered; terms = refl })
+
+    recovers_step : (time : ℕ) (given frame frame' request request' answer answer' store' : List ℕ) (r : Result Recovered Refusal) (w : Writer) (c : C) (n : N) → Lends q.store store' given given
+        → (d : Recovers sets puts transfers lists stamps updates (refusal_for (view_of q.writer) call.Recover (lens_of given frame request answer)) (view_of q.writer) given time (record { link = q.link; namenode = q.namenode; frame = frame; request = request; answer = answer }) r (view_of w) (record { link = c; namenode = n; frame = frame'; request = request'; answer = answer' }))
+        → Invariant (record { history = rebuilt q.history (set_in sets puts transfers lists stamps updates (view_of q.writer) given time r (view_of w) (record { link = c; namenode = n; frame = frame'; request = request'; answer = answer' }) (refusal_for (view_of q.writer) call.Recover (lens_of given frame request answer)) (record { link = q.link; namenode = q.namenode; frame = frame; request = request; answer = answer }) d); writer = w; store = store'; link = c; namenode = n })
+    recovers_step time given frame frame' request request' answer answer' store' r w c n lends d =
+        let l = lens_of given frame request answer in
+        let v = view_of q.writer in
+        let s : Site C N = record { link = q.link; namenode = q.namenode; frame = frame; request = request; answer = answer } in
+        let t : Site C N = record { link = c; namenode = n; frame = frame'; request = request'; answer = answer' } in
+        let o = refusal_for v call.Recover l in
+        ⊎_elim
+        (λ (own : (given ≡ q.store) × (given ≡ store')).
+            let holds = subst (λ (z : List ℕ). Holds q.history v z (seen q.link)) (sym own.0) i.holds in
+            from_rebuilt _ w c n (recovered_keeps sets puts transfers lists stamps updates seen entry setting putting transferring listing stamping updating q.history o v (view_of w) given time s t r (breaks_recover v l) (fit_of q.writer (length given) holds.store_len) holds i.entered d) own.1)
+        (λ (other : (store' ≡ q.store) × (length given ≢ length q.store)).
+            from_rebuilt _ w c n (unrecovered o (refused given frame request answer call.Recover other.1) given time s t r (view_of w) refl refl d) (sym other.0))
+        (lent lends)
