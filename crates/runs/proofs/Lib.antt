@@ -1,2 +1,3 @@
 pub mod Invariant
 pub mod Taken
+pub mod Keeps
