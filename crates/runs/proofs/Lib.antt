@@ -1,3 +1,5 @@
 pub mod Invariant
 pub mod Taken
 pub mod Keeps
+pub mod Fits
+pub mod Hands

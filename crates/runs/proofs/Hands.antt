@@ -1,0 +1,62 @@
+-- A packet is held and its frame put, or lost: bytes and packets stay in order. Assumes nothing.
+use Rattle.std.proofs.Common.{◌≡◌, ℕ, ◌+◌, ◌-◌, ◌*◌, ◌%◌, ◌^◌, ◌<◌, ◌≤◌, Bool, true, false, List, [], ◌∷◌, ◌++◌, length, refl, sym, ap, ◌∙◌, subst, arith}
+use Rattle.packet.specs.Frame.{Packet, octets_of}
+use Rattle.packet.specs.Reading.{Carried}
+use Rattle.held.specs.Slots.{packets, packet_of, slot_of}
+use Rattle.held.proofs.Packets.{slot_long}
+use Rattle.held.proofs.Apart.{handed_packets, handed_whole}
+use Rattle.chain.specs.Meaning.{Seen, Puts}
+use Rattle.writer.specs.declared.cause.Cause.TheVariants.{Put}
+use Rattle.writer.specs.declared.state.kind.State.{State}
+use Rattle.writer.specs.declared.state.kind.State.TheVariants.{Streaming, Finishing, Broken, Complete, Closed}
+use Rattle.writer.specs.Sizes.{capacity, room_at}
+use Rattle.writer.specs.States.{ended, last_ones}
+use Rattle.writer.specs.Views.{View, chunk_of, next_of, waiting_of, with_state, with_held, held_in, filling_in, outgoing, broken_by}
+use Rattle.writer.proofs.Rooms.{room_within}
+use Rattle.runs.specs.History.{History}
+use Rattle.runs.proofs.Invariant.{Fit, Holds, Flows, Sofar, Confirmed, kept_long}
+use Rattle.runs.proofs.Taken.{carried, pending_more}
+use Rattle.runs.proofs.Keeps.{Keeps}
+
+-- packets that are pending as they are held flow in every state
+pub flowing : (s : State) (pending held : List Packet) → pending ≡ held → Flows s pending held
+flowing Streaming pending held e = e
+flowing Finishing pending held e = e
+flowing (Broken cause finished) pending held e = tt
+flowing Complete pending held e = tt
+flowing Closed pending held e = tt
+
+module _ (h : History) (v : View) (store : List ℕ) (x : Seen) (f : Fit v (length store)) (holds : Holds h v store x) where
+  -- the packet being filled is held, whatever the pipeline made of its frame
+  pub holds_held : (s : State) (y : Seen) → y.kept ≡ x.kept → Flows s y.pending (held_in (with_state s (with_held v)) store (length x.kept)) → Confirmed s v.first (v.count + 1) h.confirmed
+      → Holds h (with_state s (with_held v)) store y
+  holds_held s y kept flows confirmed =
+      let whole = handed_whole (chunk_of v) (capacity v.terms) v.terms.slots v.sizes store v.count v.first v.filling f.room f.table (ended v.state) (ended s) x.kept (h.initial ++ h.accepted) holds.whole in
+      record {
+        store_len = holds.store_len;
+        whole = rw kept whole;
+        len = holds.len;
+        flows = rw kept flows;
+        told = holds.told;
+        confirmed = confirmed;
+      }
+
+  module _ (streams : v.state ≡ Streaming) where
+    pub sofar : Sofar v.first h.confirmed
+    sofar = subst (λ (s : State). Confirmed s v.first v.count h.confirmed) streams holds.confirmed
+
+    -- where the frame is taken, the packet is pending behind those that were
+    pub pending_held : (s : State) (y : Seen) → Puts (octets_of (outgoing (with_state s v) store)) true x y
+        → y ≡ record { kept = x.kept; pending = held_in (with_state s (with_held v)) store (length x.kept); nodes = x.nodes; chunk = x.chunk }
+    pending_held s y puts =
+        let before : x.pending ≡ held_in (with_state Streaming v) store (length x.kept) = subst (λ (s : State). Flows s x.pending (held_in (with_state s v) store (length x.kept))) streams holds.flows in
+        let bytes = filling_in v store in
+        let long = slot_long (capacity v.terms) v.terms.slots store (next_of v) v.filling (omega (arith, f.slots)) (omega (arith, f.fits, room_within v.terms (next_of v))) f.store in
+        let few : last_ones v.state ≡ 0 = ap last_ones streams in
+        let q = outgoing (with_state s v) store in
+        let c = carried v.terms (v.len - v.filling) (next_of v) (ended s) bytes (omega (arith, f.limit)) (omega (arith, f.numbers, f.limit, few)) (omega (arith, long, f.fits, room_within v.terms (next_of v))) in
+        let is = pending_more q x y c (omega (arith, f.numbers, f.limit, few)) puts in
+        let offset : v.len - v.filling ≡ length x.kept + waiting_of v = omega (arith, kept_long h v store x f holds) in
+        let held = handed_packets (chunk_of v) (capacity v.terms) v.terms.slots v.sizes store v.count v.first v.filling f.room f.table (ended s) (length x.kept) in
+        let more : x.pending ++ q ∷ [] ≡ held_in (with_state s (with_held v)) store (length x.kept) = rw (before, offset) (sym held) in
+        is ∙ ap (λ (l : List Packet). record { kept = x.kept; pending = l; nodes = x.nodes; chunk = x.chunk }) more
