@@ -1,5 +1,5 @@
 -- A packet is held and its frame put, or lost: bytes and packets stay in order. Assumes nothing.
-use Rattle.std.proofs.Common.{◌≡◌, ℕ, ◌+◌, ◌-◌, ◌*◌, ◌%◌, ◌^◌, ◌<◌, ◌≤◌, Bool, true, false, List, [], ◌∷◌, ◌++◌, length, refl, sym, ap, ◌∙◌, subst, arith}
+use Rattle.std.proofs.Common.{◌≡◌, ℕ, ◌+◌, ◌-◌, ◌*◌, ◌%◌, ◌^◌, ◌<◌, ◌≤◌, Bool, true, false, cond, List, [], ◌∷◌, ◌++◌, length, refl, sym, ap, ◌∙◌, subst, arith}
 use Rattle.packet.specs.Frame.{Packet, octets_of}
 use Rattle.packet.specs.Reading.{Carried}
 use Rattle.held.specs.Slots.{packets, packet_of, slot_of}
@@ -14,7 +14,7 @@ use Rattle.writer.specs.States.{ended, last_ones}
 use Rattle.writer.specs.Views.{View, chunk_of, next_of, waiting_of, with_state, with_held, held_in, filling_in, outgoing, broken_by}
 use Rattle.writer.proofs.Rooms.{room_within}
 use Rattle.runs.specs.History.{History}
-use Rattle.runs.proofs.Invariant.{Fit, Holds, Flows, Sofar, Confirmed, kept_long}
+use Rattle.runs.proofs.Invariant.{Fit, Holds, Flows, Sofar, Confirmed, kept_long, IsOpen}
 use Rattle.runs.proofs.Taken.{carried, pending_more}
 use Rattle.runs.proofs.Keeps.{Keeps}
 
@@ -60,3 +60,21 @@ module _ (h : History) (v : View) (store : List ℕ) (x : Seen) (f : Fit v (leng
         let held = handed_packets (chunk_of v) (capacity v.terms) v.terms.slots v.sizes store v.count v.first v.filling f.room f.table (ended s) (length x.kept) in
         let more : x.pending ++ q ∷ [] ≡ held_in (with_state s (with_held v)) store (length x.kept) = rw (before, offset) (sym held) in
         is ∙ ap (λ (l : List Packet). record { kept = x.kept; pending = l; nodes = x.nodes; chunk = x.chunk }) more
+
+    -- the packet is handed over in state s
+    pub handed_keeps : (s : State) (y : Seen) (sent : Bool) → Confirmed s v.first (v.count + 1) h.confirmed → Puts (octets_of (outgoing (with_state s v) store)) sent x y
+        → Keeps h v (cond sent (with_held (with_state s v)) (broken_by (Put (next_of v)) (with_held (with_state s v)))) store y
+    handed_keeps s y true confirmed puts =
+        let is = pending_held s y puts in
+        record {
+          holds = holds_held s y (ap (λ (z : Seen). z.kept) is) (flowing s y.pending _ (ap (λ (z : Seen). z.pending) is)) confirmed;
+          stamp = refl;
+          terms = refl;
+          opens = λ o. subst IsOpen (sym streams) tt;
+        }
+    handed_keeps s y false confirmed puts = record {
+      holds = holds_held (Broken (Put (next_of v)) (ended s)) y (ap (λ (z : Seen). z.kept) puts) tt sofar;
+      stamp = refl;
+      terms = refl;
+      opens = λ o. subst IsOpen (sym streams) tt;
+    }

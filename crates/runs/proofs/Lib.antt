@@ -3,3 +3,4 @@ pub mod Taken
 pub mod Keeps
 pub mod Fits
 pub mod Hands
+pub mod Writes
