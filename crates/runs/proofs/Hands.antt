@@ -13,6 +13,7 @@ use Rattle.writer.specs.Sizes.{capacity, room_at}
 use Rattle.writer.specs.States.{ended, last_ones}
 use Rattle.writer.specs.Views.{View, chunk_of, next_of, waiting_of, with_state, with_held, held_in, filling_in, outgoing, broken_by}
 use Rattle.writer.proofs.Rooms.{room_within}
+use Rattle.writer.specs.Writing.{Place, handed_over}
 use Rattle.runs.specs.History.{History}
 use Rattle.runs.proofs.Invariant.{Fit, Holds, Flows, Sofar, Confirmed, kept_long, IsOpen}
 use Rattle.runs.proofs.Taken.{carried, pending_more}
@@ -78,3 +79,12 @@ module _ (h : History) (v : View) (store : List ℕ) (x : Seen) (f : Fit v (leng
       terms = refl;
       opens = λ o. subst IsOpen (sym streams) tt;
     }
+
+module _ {C : Type 0} (seen : C → Seen) (puts : C → List ℕ → Bool → C → Type 0) (putting : (a b : C) (frame : List ℕ) (taken : Bool) → puts a frame taken b → Puts frame taken (seen a) (seen b)) where
+  -- a packet of a block that has not ended
+  pub hands_keep : (h : History) (p : Place C) (c : C) (sent : Bool) → p.view.state ≡ Streaming → Fit p.view (length p.store) → Holds h p.view p.store (seen p.link)
+      → puts p.link (octets_of (outgoing p.view p.store)) sent c → Keeps h p.view (handed_over p sent c).view p.store (seen c)
+  hands_keep h p c sent streams f holds act =
+      handed_keeps h p.view p.store (seen p.link) f holds streams p.view.state (seen c) sent
+      (subst (λ (s : State). Confirmed s p.view.first (p.view.count + 1) h.confirmed) (sym streams) (sofar h p.view p.store (seen p.link) f holds streams))
+      (putting p.link c _ sent act)

@@ -4,3 +4,4 @@ pub mod Keeps
 pub mod Fits
 pub mod Hands
 pub mod Writes
+pub mod Ends

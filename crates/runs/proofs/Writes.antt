@@ -21,7 +21,7 @@ use Rattle.writer.proofs.Turns.{hand_full, amount_le}
 use Rattle.runs.specs.History.{History, wrote}
 use Rattle.runs.proofs.Invariant.{Fit, Holds, Flows, Confirmed}
 use Rattle.runs.proofs.Fits.{fit_poured, fit_held}
-use Rattle.runs.proofs.Hands.{handed_keeps, sofar}
+use Rattle.runs.proofs.Hands.{hands_keep}
 use Rattle.runs.proofs.Keeps.{Keeps, keeps_same}
 
 -- bytes that are accepted
@@ -80,14 +80,6 @@ hand_places v n e = ltb-true _ _ (places (full v) (ltb (v.count + 1) v.terms.slo
     places false false false e = absurd (let z : ◌≡◌ {A = ℕ} 0 1 = cc in omega arith)
 
 module _ {C : Type 0} (seen : C → Seen) (puts : C → List ℕ → Bool → C → Type 0) (putting : (a b : C) (frame : List ℕ) (taken : Bool) → puts a frame taken b → Puts frame taken (seen a) (seen b)) where
-  -- a packet of a write
-  hands_keep : (h : History) (p : Place C) (c : C) (sent : Bool) → p.view.state ≡ Streaming → Fit p.view (length p.store) → Holds h p.view p.store (seen p.link)
-      → puts p.link (octets_of (outgoing p.view p.store)) sent c → Keeps h p.view (handed_over p sent c).view p.store (seen c)
-  hands_keep h p c sent streams f holds act =
-      handed_keeps h p.view p.store (seen p.link) f holds streams p.view.state (seen c) sent
-      (subst (λ (s : State). Confirmed s p.view.first (p.view.count + 1) h.confirmed) (sym streams) (sofar h p.view p.store (seen p.link) f holds streams))
-      (putting p.link c _ sent act)
-
   writes_keep : (h : History) {p q : Place C} {bytes : List ℕ} {n : ℕ} {lost : Bool} → p.view.state ≡ Streaming → Fit p.view (length p.store) → Holds h p.view p.store (seen p.link)
       → Writes puts p bytes n lost q → Keeps (accepting h (take n bytes)) p.view q.view q.store (seen q.link)
   writes_keep h streams f holds (stops {p} {bytes} e) = none_more h p.view p.store (seen p.link) p.view (keeps_same h p.view p.store (seen p.link) holds)
@@ -99,14 +91,14 @@ module _ {C : Type 0} (seen : C → Seen) (puts : C → List ℕ → Bool → C 
       let r = more h (coming v bytes) (take n (drop (amount v (length bytes)) bytes)) _ (poured p bytes).view q.view q.store (seen q.link) parts k in
       record { holds = r.holds; stamp = r.stamp; terms = r.terms; opens = r.opens }
   writes_keep h streams f holds (hands {p} {q} {bytes} {n} {lost} c e act rest) =
-      let a = hands_keep h p c true streams f holds act in
+      let a = hands_keep seen puts putting h p c true streams f holds act in
       let room = hand_full p.view (length bytes) e in
       let some : 1 + last_ones p.view.state ≤ p.view.filling + last_ones p.view.state = omega (arith, room, room_some p.view.terms (next_of p.view)) in
       let fits = fit_held p.view p.view.state (length p.store) f (hand_places p.view (length bytes) e) some in
       let k = writes_keep h {p = handed_over p true c} {q = q} streams fits a.holds rest in
       record { holds = k.holds; stamp = k.stamp; terms = k.terms; opens = k.opens }
   writes_keep h streams f holds (loses {p} {bytes} c e act) =
-      none_more h p.view p.store (seen c) _ (hands_keep h p c false streams f holds act)
+      none_more h p.view p.store (seen c) _ (hands_keep seen puts putting h p c false streams f holds act)
 
   pub wrote_keeps : (h : History) (o : Option Refusal) (p q : Place C) (bytes : List ℕ) (r : Result Written Refusal) → (o ≡ None → p.view.state ≡ Streaming) → Fit p.view (length p.store) → Holds h p.view p.store (seen p.link)
       → Wrote puts o p bytes r q → Keeps (wrote h bytes r) p.view q.view q.store (seen q.link)
