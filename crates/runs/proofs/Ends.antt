@@ -1,21 +1,20 @@
 -- The end of a block, and a heartbeat, keep bytes and packets in order. Assumes nothing.
-use Rattle.std.proofs.Common.{◌≡◌, ℕ, ◌+◌, ◌-◌, ◌^◌, ◌<◌, ◌≤◌, Bool, true, false, cond, eqb, List, [], length, Some, None, Ok, Err, Option, Result, refl, sym, ap, ◌∙◌, subst, arith}
-use Rattle.std.proofs.lemmas.Bool.{cond-true, cond-false, eqb-true, eqb-false}
+use Rattle.std.proofs.Common.{◌≡◌, ℕ, ◌+◌, ◌-◌, ◌^◌, ◌<◌, Bool, true, false, cond, eqb, List, [], length, Some, None, Ok, Err, Option, Result, refl, sym, ap, subst, arith}
+use Rattle.std.proofs.lemmas.Bool.{eqb-false}
 use Rattle.packet.specs.Frame.{octets_of}
 use Rattle.chain.specs.Meaning.{Seen, Puts}
 use Rattle.writer.specs.declared.beat.Beat.{Beat}
 use Rattle.writer.specs.declared.cause.Cause.TheVariants.{Put}
 use Rattle.writer.specs.declared.finish.Finished.{Finished}
 use Rattle.writer.specs.declared.refusal.Refusal.{Refusal}
-use Rattle.writer.specs.declared.state.kind.State.{State}
-use Rattle.writer.specs.declared.state.kind.State.TheVariants.{Streaming, Finishing, Broken, Complete, Closed}
-use Rattle.writer.specs.States.{ended, last_ones}
-use Rattle.writer.specs.Views.{View, next_of, with_state, with_held, outgoing, beaten_at, broken_by}
+use Rattle.writer.specs.declared.state.kind.State.TheVariants.{Streaming, Finishing, Broken}
+use Rattle.writer.specs.States.{last_ones}
+use Rattle.writer.specs.Views.{next_of, with_state, with_held, outgoing, beaten_at, broken_by}
 use Rattle.writer.specs.Writing.{Place, handed_over}
-use Rattle.writer.specs.Finishing.{closing_packets, Ends, Empties, EndsIf, ThenEnds, held_unsent, Finishes}
+use Rattle.writer.specs.Finishing.{closing_packets, Ends, EndsIf, ThenEnds, held_unsent, Finishes}
 use Rattle.writer.specs.Beating.{heartbeat, is_due, beat_by, BeatsIf, Beats}
 use Rattle.runs.specs.History.{History}
-use Rattle.runs.proofs.Invariant.{Fit, Holds, Confirmed, IsOpen}
+use Rattle.runs.proofs.Invariant.{Fit, Holds, IsOpen}
 use Rattle.runs.proofs.Fits.{fit_held}
 use Rattle.runs.proofs.Hands.{handed_keeps, hands_keep, holds_held, sofar}
 use Rattle.runs.proofs.Taken.{carried, pending_same}
@@ -65,12 +64,27 @@ module _ {C : Type 0} (seen : C → Seen) (puts : C → List ℕ → Bool → C 
   finished_keeps h None p q (Ok r) goes f holds d = ends_if h p r q (eqb p.view.filling 0) refl (goes refl).0 (goes refl).1 f holds d
   finished_keeps h None p q (Err e) goes f holds d = absurd d
 
-  beats_if : (h : History) (p q : Place C) (time : ℕ) (r : Result Beat Refusal) (b : Bool) → p.view.state ≡ Streaming → Holds h p.view p.store (seen p.link)
+  -- a heartbeat is not pending, taken or lost
+  beat_keeps : (h : History) (p : Place C) (time : ℕ) (sent : Bool) (c : C) → p.view.state ≡ Streaming → Fit p.view (length p.store) → Holds h p.view p.store (seen p.link)
+      → puts p.link (octets_of (heartbeat p.view)) sent c → Keeps h p.view (beat_by p time sent c).view p.store (seen c)
+  beat_keeps h p time true c streams f holds act =
+      let q = carried p.view.terms 0 (2 ^ 64 - 1) false [] (omega arith) (omega arith) (omega arith) in
+      let same = pending_same (heartbeat p.view) (seen p.link) (seen c) q refl (putting p.link c _ true act) in
+      let was : Holds h (beaten_at time p.view) p.store (seen p.link) = record { store_len = holds.store_len; whole = holds.whole; len = holds.len; flows = holds.flows; told = holds.told; confirmed = holds.confirmed } in
+      record { holds = subst (Holds h (beaten_at time p.view) p.store) (sym same) was; stamp = refl; terms = refl; opens = λ o. o }
+  beat_keeps h p time false c streams f holds act =
+      let last = sofar h p.view p.store (seen p.link) f holds streams in
+      let broken = broken_by (Put (2 ^ 64 - 1)) (beaten_at time p.view) in
+      let was : Holds h broken p.store (seen p.link) = record { store_len = holds.store_len; whole = holds.whole; len = holds.len; flows = tt; told = holds.told; confirmed = last } in
+      record { holds = subst (Holds h broken p.store) (sym (putting p.link c _ false act)) was; stamp = refl; terms = refl; opens = λ o. subst IsOpen (sym streams) tt }
+
+  beats_if : (h : History) (p q : Place C) (time : ℕ) (r : Result Beat Refusal) (b : Bool) → p.view.state ≡ Streaming → Fit p.view (length p.store) → Holds h p.view p.store (seen p.link)
       → BeatsIf b puts p time r q → Keeps h p.view q.view q.store (seen q.link)
-  beats_if h p q time r true streams holds d = ?
-  beats_if h p q time r false streams holds d = same h p q holds d.1
+  beats_if h p q time r true streams f holds d =
+      subst (λ (q : Place C). Keeps h p.view q.view q.store (seen q.link)) (sym d.is) (beat_keeps h p time d.sent q.link streams f holds d.acted)
+  beats_if h p q time r false streams f holds d = same h p q holds d.1
 
   pub beaten_keeps : (h : History) (o : Option Refusal) (p q : Place C) (time : ℕ) (r : Result Beat Refusal) → (o ≡ None → p.view.state ≡ Streaming) → Fit p.view (length p.store) → Holds h p.view p.store (seen p.link)
       → Beats puts o p time r q → Keeps h p.view q.view q.store (seen q.link)
   beaten_keeps h (Some refusal) p q time r goes f holds d = same h p q holds d.1
-  beaten_keeps h None p q time r goes f holds d = beats_if h p q time r (is_due p.view time) (goes refl) holds d
+  beaten_keeps h None p q time r goes f holds d = beats_if h p q time r (is_due p.view time) (goes refl) f holds d

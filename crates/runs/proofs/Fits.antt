@@ -1,13 +1,13 @@
 -- The contents of a writer stay in order through bytes poured, a packet held, another state and a heartbeat. Assumes nothing.
-use Rattle.std.proofs.Common.{◌≡◌, ℕ, ◌+◌, ◌-◌, ◌*◌, ◌%◌, ◌<◌, ◌≤◌, min, true, List, [], length, set, refl, sym, ap, ◌∙◌, subst, arith}
+use Rattle.std.proofs.Common.{◌≡◌, ℕ, ◌+◌, ◌%◌, ◌<◌, ◌≤◌, [], set, refl, sym, ap, ◌∙◌, arith}
 use Rattle.std.proofs.lemmas.Bool.{true≢false}
 use Rattle.std.proofs.lemmas.List.{length-set}
 use Rattle.held.proofs.Apart.{handed_total, set_small}
 use Rattle.writer.specs.declared.state.kind.State.{State}
-use Rattle.writer.specs.declared.state.kind.State.TheVariants.{Streaming, Finishing, Broken, Complete, Closed}
-use Rattle.writer.specs.Sizes.{capacity, room_at}
+use Rattle.writer.specs.declared.state.kind.State.TheVariants.{Streaming}
+use Rattle.writer.specs.Sizes.{capacity}
 use Rattle.writer.specs.States.{ended, last_ones}
-use Rattle.writer.specs.Views.{View, next_of, waiting_of, with_state, with_bytes, with_held, beaten_at}
+use Rattle.writer.specs.Views.{View, next_of, with_state, with_bytes, with_held}
 use Rattle.writer.specs.Writing.{amount}
 use Rattle.writer.proofs.Rooms.{room_within}
 use Rattle.runs.proofs.Invariant.{Fit}

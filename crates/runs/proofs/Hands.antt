@@ -1,15 +1,13 @@
 -- A packet is held and its frame put, or lost: bytes and packets stay in order. Assumes nothing.
-use Rattle.std.proofs.Common.{◌≡◌, ℕ, ◌+◌, ◌-◌, ◌*◌, ◌%◌, ◌^◌, ◌<◌, ◌≤◌, Bool, true, false, cond, List, [], ◌∷◌, ◌++◌, length, refl, sym, ap, ◌∙◌, subst, arith}
+use Rattle.std.proofs.Common.{◌≡◌, ℕ, ◌+◌, ◌-◌, Bool, true, false, cond, List, [], ◌∷◌, ◌++◌, length, refl, sym, ap, ◌∙◌, subst, arith}
 use Rattle.packet.specs.Frame.{Packet, octets_of}
-use Rattle.packet.specs.Reading.{Carried}
-use Rattle.held.specs.Slots.{packets, packet_of, slot_of}
 use Rattle.held.proofs.Packets.{slot_long}
 use Rattle.held.proofs.Apart.{handed_packets, handed_whole}
 use Rattle.chain.specs.Meaning.{Seen, Puts}
 use Rattle.writer.specs.declared.cause.Cause.TheVariants.{Put}
 use Rattle.writer.specs.declared.state.kind.State.{State}
 use Rattle.writer.specs.declared.state.kind.State.TheVariants.{Streaming, Finishing, Broken, Complete, Closed}
-use Rattle.writer.specs.Sizes.{capacity, room_at}
+use Rattle.writer.specs.Sizes.{capacity}
 use Rattle.writer.specs.States.{ended, last_ones}
 use Rattle.writer.specs.Views.{View, chunk_of, next_of, waiting_of, with_state, with_held, held_in, filling_in, outgoing, broken_by}
 use Rattle.writer.proofs.Rooms.{room_within}

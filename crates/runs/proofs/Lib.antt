@@ -5,3 +5,4 @@ pub mod Fits
 pub mod Hands
 pub mod Writes
 pub mod Ends
+pub mod Goes

@@ -1,25 +1,23 @@
 -- A write keeps bytes and packets in order: what it counts as taken is accepted, turn by turn. Assumes nothing.
-use Rattle.std.proofs.Common.{◌≡◌, ℕ, ◌+◌, ◌-◌, ◌*◌, ◌%◌, ◌^◌, ◌<◌, ◌≤◌, Bool, true, false, cond, ltb, List, [], ◌∷◌, ◌++◌, length, take, drop, Some, None, Ok, Err, Option, Result, refl, sym, ap, ◌∙◌, subst, append_assoc, length-append, length-take, arith}
+use Rattle.std.proofs.Common.{◌≡◌, ℕ, ◌+◌, ◌<◌, ◌≤◌, Bool, true, false, cond, ltb, List, [], ◌++◌, length, take, drop, Some, None, Ok, Err, Option, Result, refl, sym, ap, ◌∙◌, subst, append_assoc, length-append, length-take, arith}
 use borrow.Rule.Slice.PartMut.{put_mid}
 use Rattle.std.proofs.Math.Seq.{take-add}
 use Rattle.std.proofs.lemmas.Bool.{ltb-true}
 use Rattle.std.proofs.lemmas.List.{append-nil}
-use Rattle.packet.specs.Frame.{octets_of}
 use Rattle.held.proofs.Packets.{slot_within}
 use Rattle.held.proofs.Filling.{takes_in, put_long}
 use Rattle.chain.specs.Meaning.{Seen, Puts}
 use Rattle.writer.specs.declared.refusal.Refusal.{Refusal}
-use Rattle.writer.specs.declared.state.kind.State.{State}
-use Rattle.writer.specs.declared.state.kind.State.TheVariants.{Streaming, Finishing, Broken, Complete, Closed}
+use Rattle.writer.specs.declared.state.kind.State.TheVariants.{Streaming}
 use Rattle.writer.specs.declared.write.Written.{Written}
-use Rattle.writer.specs.Sizes.{capacity, room_at}
+use Rattle.writer.specs.Sizes.{capacity}
 use Rattle.writer.specs.States.{ended, last_ones}
-use Rattle.writer.specs.Views.{View, chunk_of, next_of, with_bytes, with_held, slot_start, outgoing}
+use Rattle.writer.specs.Views.{View, chunk_of, next_of, with_bytes, slot_start}
 use Rattle.writer.specs.Writing.{Place, amount, full, hand, pour, stop, turn_of, poured, handed_over, Writes, stops, pours, hands, loses, Wrote}
 use Rattle.writer.proofs.Rooms.{room_within, room_some}
 use Rattle.writer.proofs.Turns.{hand_full, amount_le}
 use Rattle.runs.specs.History.{History, wrote}
-use Rattle.runs.proofs.Invariant.{Fit, Holds, Flows, Confirmed}
+use Rattle.runs.proofs.Invariant.{Fit, Holds, Flows}
 use Rattle.runs.proofs.Fits.{fit_poured, fit_held}
 use Rattle.runs.proofs.Hands.{hands_keep}
 use Rattle.runs.proofs.Keeps.{Keeps, keeps_same}
