@@ -1,5 +1,5 @@
--- The contents of a writer stay in order through bytes poured, a packet held, another state and a heartbeat. Assumes nothing.
-use Rattle.std.proofs.Common.{◌≡◌, ℕ, ◌+◌, ◌%◌, ◌<◌, ◌≤◌, [], set, refl, sym, ap, ◌∙◌, arith}
+-- The contents of a writer stay in order as bytes come into the packet being filled, and as that packet is held. Assumes nothing.
+use Rattle.std.proofs.Common.{◌≡◌, ℕ, ◌+◌, ◌%◌, ◌<◌, ◌≤◌, [], refl, sym, ap, ◌∙◌, arith}
 use Rattle.std.proofs.lemmas.Bool.{true≢false}
 use Rattle.std.proofs.lemmas.List.{length-set}
 use Rattle.held.proofs.Apart.{handed_total, set_small}
@@ -28,18 +28,18 @@ fit_poured v long n f e = record {
   done = λ d. absurd (true≢false (sym d ∙ ap ended e));
 }
 
--- the packet being filled is held, in whatever state: it has a byte, or it is the only one that may have none
+-- the packet being filled is held, and the writer is in state s then: the packet has a byte, or it is the one that may have none
 pub fit_held : (v : View) (s : State) (long : ℕ) → Fit v long → v.count + 1 < v.terms.slots → 1 + last_ones v.state ≤ v.filling + last_ones s → Fit (with_state s (with_held v)) long
 fit_held v s long f less some =
-    let sizes = set v.sizes (next_of v % v.terms.slots) v.filling in
+    let at = next_of v % v.terms.slots in
     let total = handed_total 0 0 v.terms.slots v.sizes [] v.count v.first v.filling f.room f.table in
     record {
       slots = f.slots;
       store = f.store;
       room = less;
       fits = omega arith;
-      small = set_small v.sizes (next_of v % v.terms.slots) v.filling (capacity v.terms) f.small (omega (arith, f.fits, room_within v.terms (next_of v)));
-      table = omega (arith, f.table, length-set v.sizes (next_of v % v.terms.slots) v.filling);
+      small = set_small v.sizes at v.filling (capacity v.terms) f.small (omega (arith, f.fits, room_within v.terms (next_of v)));
+      table = omega (arith, f.table, length-set v.sizes at v.filling);
       numbers = omega (arith, f.numbers, some);
       ends = omega (arith, f.ends, total);
       limit = f.limit;

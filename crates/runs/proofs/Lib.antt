@@ -1,8 +1,12 @@
 pub mod Invariant
 pub mod Taken
 pub mod Keeps
+pub mod States
+pub mod Heeds
+pub mod Hearing
 pub mod Fits
 pub mod Hands
 pub mod Writes
 pub mod Ends
 pub mod Goes
+pub mod Opened

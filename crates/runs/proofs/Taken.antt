@@ -1,7 +1,7 @@
 -- A packet's frame that was taken, and what the far end has pending then. Assumes nothing.
 use Rattle.std.proofs.Common.{◌≡◌, ℕ, ◌-◌, ◌^◌, ◌<◌, ◌≤◌, Bool, true, eqb, List, [], ◌∷◌, ◌++◌, length, replicate, refl, ap, ◌∙◌, arith}
 use Rattle.std.proofs.lemmas.Bool.{cond-true, cond-false, eq-eqb, ne_eqb, ltb-true, and_parts}
-use lib.ListN.{length-replicate}
+use Rattle.std.proofs.lemmas.List.{length-replicate}
 use Rattle.packet.specs.Frame.{Packet, octets_of, whole_in, fits_in}
 use Rattle.packet.specs.Reading.{Carried}
 use Rattle.packet.proofs.Reading.{unique}

@@ -1,4 +1,5 @@
 pub mod History
 pub mod Answered
 pub mod Runs
+pub mod Begins
 pub mod Law
