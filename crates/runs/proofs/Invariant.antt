@@ -28,6 +28,7 @@ pub record Fit (v : View) (long : ℕ) : Type 0 where
   pub numbers : v.first + v.count + v.filling + v.terms.initial_len ≤ v.len + last_ones v.state
   pub ends : waiting_of v + v.filling ≤ v.len
   pub limit : v.len < 2 ^ 63
+  pub block : v.terms.block_size < 2 ^ 63
   pub done : ended v.state ≡ true → v.filling ≡ 0
 
 pub fit_of : (w : Writer) (long : ℕ) → long ≡ w.terms.store_len → Fit (view_of w) long
@@ -41,6 +42,7 @@ fit_of w long e = record {
   numbers = w.numbers;
   ends = omega (arith, w.ends, w.sums);
   limit = omega (arith, w.limit);
+  block = omega (arith, w.limit);
   done = w.done;
 }
 

@@ -4,6 +4,11 @@ pub mod Keeps
 pub mod States
 pub mod Heeds
 pub mod Hearing
+pub mod Fits
+pub mod Hands
+pub mod Writes
+pub mod Ends
+pub mod Goes
 pub mod Opened
 pub mod Lawful
 pub mod Every
