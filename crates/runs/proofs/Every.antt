@@ -1,5 +1,5 @@
 -- Every run keeps the invariant, so that the law holds at its end. Assumes nothing.
-use Rattle.std.proofs.Common.{◌≡◌, ℕ, Bool, List, length, None, Some, Option, Result, ◌≢◌, ◌⊎◌, inl, inr, ⊎_elim, sym, refl, ap, ◌∙◌, subst}
+use Rattle.std.proofs.Common.{◌≡◌, ℕ, Bool, List, length, None, Some, Ok, Err, Option, Result, ◌≢◌, ◌⊎◌, inl, inr, ⊎_elim, sym, refl, ◌∙◌, subst}
 use Rattle.proto.specs.declared.datanode.Datanode.{Datanode}
 use Rattle.chain.specs.Acts.{Came}
 use Rattle.chain.specs.Meaning.{Seen, SetsUp, Puts, Nexts}
@@ -20,20 +20,24 @@ use Rattle.writer.specs.Finishing.{finish_refusal, Finishes}
 use Rattle.writer.specs.Heeding.{Heeds}
 use Rattle.writer.specs.Recovering.{Site, Recovers}
 use Rattle.writer.specs.Views.{View, view_of}
-use Rattle.writer.specs.Writing.{Wrote}
+use Rattle.writer.specs.Writing.{Place, Wrote}
 use Rattle.writer.proofs.Admitted.{refused_store}
 use Rattle.runs.specs.Begins.{Begins}
 use Rattle.runs.specs.History.{History, wrote, heard, rebuilt}
 use Rattle.runs.specs.Answered.{set_in}
 use Rattle.runs.specs.Law.{Law}
 use Rattle.runs.specs.Runs.{Point, Lends, Run, own, other, here, writes, heeds, beats, finishes, recovers}
+use Rattle.runs.proofs.Ends.{finished_keeps, beaten_keeps}
+use Rattle.runs.proofs.Goes.{streams_write, streams_beat, streams_end, refused_store_end}
 use Rattle.runs.proofs.Hearing.{heard_keeps, listens_heed}
-use Rattle.runs.proofs.Invariant.{Fit, fit_of, Holds, Named, IsOpen, Entered}
+use Rattle.runs.proofs.Invariant.{Fit, fit_of, Holds, Entered}
 use Rattle.runs.proofs.Keeps.{Keeps}
 use Rattle.runs.proofs.Lawful.{lawful}
 use Rattle.runs.proofs.Opened.{opened}
 use Rattle.runs.proofs.Recovers.{recovered_keeps}
 use Rattle.runs.proofs.Reopened.{Rebuilt, breaks_recover}
+use Rattle.runs.proofs.States.{stays}
+use Rattle.runs.proofs.Writes.{wrote_keeps}
 
 -- the writer's own store, or another, which leaves it
 lent : {store store' given given' : List ℕ} → Lends store store' given given' → ((given ≡ store) × (given' ≡ store')) ⊎ ((store' ≡ store) × (length given ≢ length store))
@@ -44,6 +48,10 @@ lent (other ne) = inr (refl, ne)
 read_only : {store store' given : List ℕ} → Lends store store' given given → store' ≡ store
 read_only own = refl
 read_only (other ne) = refl
+
+wrote_chain : (h : History) (bytes : List ℕ) (r : Result Written Refusal) → (wrote h bytes r).chain ≡ h.chain
+wrote_chain h bytes (Ok w) = refl
+wrote_chain h bytes (Err e) = refl
 
 module _ {C N : Type 0} (sets : C → Datanode → List ℕ → ℕ → Option (List ℕ) → C → Type 0) (puts : C → List ℕ → Bool → C → Type 0) (nexts : C → Came → C → Type 0) (transfers : C → Datanode → List ℕ → Option (List ℕ) → C → Type 0)
     (lists : N → Ask → Option Offer → N → Type 0) (stamps : N → ℕ → Option (ℕ × List ℕ) → N → Type 0) (updates : N → Entry → Bool → N → Type 0) (seen : C → Seen) (entry : N → Entry)
@@ -105,8 +113,93 @@ module _ {C N : Type 0} (sets : C → Datanode → List ℕ → ℕ → Option (
         let o = refusal_for v call.Recover l in
         ⊎_elim
         (λ (own : (given ≡ q.store) × (given ≡ store')).
-            let holds = subst (λ (z : List ℕ). Holds q.history v z (seen q.link)) (sym own.0) i.holds in
-            from_rebuilt _ w c n (recovered_keeps sets puts transfers lists stamps updates seen entry setting putting transferring listing stamping updating q.history o v (view_of w) given time s t r (breaks_recover v l) (fit_of q.writer (length given) holds.store_len) holds i.entered d) own.1)
+        let holds = subst (λ (z : List ℕ). Holds q.history v z (seen q.link)) (sym own.0) i.holds in
+        from_rebuilt _ w c n (recovered_keeps sets puts transfers lists stamps updates seen entry setting putting transferring listing stamping updating q.history o v (view_of w) given time s t r (breaks_recover v l) (fit_of q.writer (length given) holds.store_len) holds i.entered d) own.1)
         (λ (other : (store' ≡ q.store) × (length given ≢ length q.store)).
-            from_rebuilt _ w c n (unrecovered o (refused given frame request answer call.Recover other.1) given time s t r (view_of w) refl refl d) (sym other.0))
+        from_rebuilt _ w c n (unrecovered o (refused given frame request answer call.Recover other.1) given time s t r (view_of w) refl refl d) (sym other.0))
         (lent lends)
+
+    -- calls that are refused leave everything
+    module _ (p : Place C) (view : p.view ≡ view_of q.writer) (link : p.link ≡ q.link) where
+      kept_by : (u : Place C) → u ≡ p → Keeps q.history (view_of q.writer) u.view q.store (seen u.link)
+      kept_by u e = rw (e, view, link) (stays q.history (view_of q.writer) q.store (seen q.link) i.holds)
+
+      unwritten : (o : Option Refusal) → (o ≡ None → ⊥) → (bytes : List ℕ) (r : Result Written Refusal) (u : Place C) → Wrote puts o p bytes r u → Keeps (wrote q.history bytes r) (view_of q.writer) u.view q.store (seen u.link)
+      unwritten None never bytes r u d = absurd (never refl)
+      unwritten (Some e) never bytes r u d = rw d.0 (kept_by u d.1)
+
+      unfinished : (o : Option Refusal) → (o ≡ None → ⊥) → (r : Result Finished Refusal) (u : Place C) → Finishes puts o p r u → Keeps q.history (view_of q.writer) u.view q.store (seen u.link)
+      unfinished None never r u d = absurd (never refl)
+      unfinished (Some e) never r u d = kept_by u d.1
+
+      unbeaten : (o : Option Refusal) → (o ≡ None → ⊥) → (time : ℕ) (r : Result Beat Refusal) (u : Place C) → Beats puts o p time r u → Keeps q.history (view_of q.writer) u.view q.store (seen u.link)
+      unbeaten None never time r u d = absurd (never refl)
+      unbeaten (Some e) never time r u d = kept_by u d.1
+
+    writes_step : (bytes given given' frame frame' request answer store' : List ℕ) (r : Result Written Refusal) (w : Writer) (c : C) → Lends q.store store' given given'
+        → Wrote puts (refusal_for (view_of q.writer) call.Write (lens_of given frame request answer)) (record { view = view_of q.writer; store = given; frame = frame; link = q.link }) bytes r (record { view = view_of w; store = given'; frame = frame'; link = c })
+        → Invariant (record { history = wrote q.history bytes r; writer = w; store = store'; link = c; namenode = q.namenode })
+    writes_step bytes given given' frame frame' request answer store' r w c lends d =
+        let l = lens_of given frame request answer in
+        let v = view_of q.writer in
+        let o = refusal_for v call.Write l in
+        let h = wrote q.history bytes r in
+        let p : Place C = record { view = v; store = given; frame = frame; link = q.link } in
+        let u : Place C = record { view = view_of w; store = given'; frame = frame'; link = c } in
+        ⊎_elim
+        (λ (own : (given ≡ q.store) × (given' ≡ store')).
+        let holds = subst (λ (z : List ℕ). Holds q.history v z (seen q.link)) (sym own.0) i.holds in
+        let k = wrote_keeps seen puts putting q.history o p u bytes r (streams_write v l) (fit_of q.writer (length given) holds.store_len) holds d in
+        from_keeps q i h w store' c (wrote_chain q.history bytes r) (subst (λ (z : List ℕ). Keeps h v (view_of w) z (seen c)) own.1 k))
+        (λ (other : (store' ≡ q.store) × (length given ≢ length q.store)).
+        let k = unwritten p refl refl o (refused given frame request answer call.Write other.1) bytes r u d in
+        from_keeps q i h w store' c (wrote_chain q.history bytes r) (subst (λ (z : List ℕ). Keeps h v (view_of w) z (seen c)) (sym other.0) k))
+        (lent lends)
+
+    -- of the calls that read the store, and change writer, frame and link alone
+    from_read : (given store' : List ℕ) (w : Writer) (c : C) → Lends q.store store' given given
+        → (Holds q.history (view_of q.writer) given (seen q.link) → Keeps q.history (view_of q.writer) (view_of w) given (seen c))
+        → (length given ≢ length q.store → Keeps q.history (view_of q.writer) (view_of w) q.store (seen c))
+        → Invariant (record { history = q.history; writer = w; store = store'; link = c; namenode = q.namenode })
+    from_read given store' w c lends acts leaves = ⊎_elim
+        (λ (own : (given ≡ q.store) × (given ≡ store')).
+        let k = acts (subst (λ (z : List ℕ). Holds q.history (view_of q.writer) z (seen q.link)) (sym own.0) i.holds) in
+        from_keeps q i q.history w store' c refl (subst (λ (z : List ℕ). Keeps q.history (view_of q.writer) (view_of w) z (seen c)) own.1 k))
+        (λ (other : (store' ≡ q.store) × (length given ≢ length q.store)).
+        from_keeps q i q.history w store' c refl (subst (λ (z : List ℕ). Keeps q.history (view_of q.writer) (view_of w) z (seen c)) (sym other.0) (leaves other.1)))
+        (lent lends)
+
+    beats_step : (time : ℕ) (given frame frame' request answer store' : List ℕ) (r : Result Beat Refusal) (w : Writer) (c : C) → Lends q.store store' given given
+        → Beats puts (refusal_for (view_of q.writer) call.Beat (lens_of given frame request answer)) (record { view = view_of q.writer; store = given; frame = frame; link = q.link }) time r (record { view = view_of w; store = given; frame = frame'; link = c })
+        → Invariant (record { history = q.history; writer = w; store = store'; link = c; namenode = q.namenode })
+    beats_step time given frame frame' request answer store' r w c lends d =
+        let l = lens_of given frame request answer in
+        let v = view_of q.writer in
+        let p : Place C = record { view = v; store = given; frame = frame; link = q.link } in
+        let u : Place C = record { view = view_of w; store = given; frame = frame'; link = c } in
+        from_read given store' w c lends
+        (λ holds. beaten_keeps seen puts putting q.history (refusal_for v call.Beat l) p u time r (streams_beat v l) (fit_of q.writer (length given) holds.store_len) holds d)
+        (λ other. unbeaten p refl refl (refusal_for v call.Beat l) (refused given frame request answer call.Beat other) time r u d)
+
+    finishes_step : (given frame frame' request answer store' : List ℕ) (r : Result Finished Refusal) (w : Writer) (c : C) → Lends q.store store' given given
+        → Finishes puts (finish_refusal (view_of q.writer) (lens_of given frame request answer)) (record { view = view_of q.writer; store = given; frame = frame; link = q.link }) r (record { view = view_of w; store = given; frame = frame'; link = c })
+        → Invariant (record { history = q.history; writer = w; store = store'; link = c; namenode = q.namenode })
+    finishes_step given frame frame' request answer store' r w c lends d =
+        let l = lens_of given frame request answer in
+        let v = view_of q.writer in
+        let p : Place C = record { view = v; store = given; frame = frame; link = q.link } in
+        let u : Place C = record { view = view_of w; store = given; frame = frame'; link = c } in
+        from_read given store' w c lends
+        (λ holds. finished_keeps seen puts putting q.history (finish_refusal v l) p u r (streams_end v l) (fit_of q.writer (length given) holds.store_len) holds d)
+        (λ other. unfinished p refl refl (finish_refusal v l) (refused_store_end v l (λ is. other (is ∙ sym i.holds.store_len))) r u d)
+
+  pub every : (o : Opening) (link : C) (p : Point C N) → Begins sets seen entry o link p → (q : Point C N) → Run sets puts nexts transfers lists stamps updates seen p q → Law seen entry q
+  every o link p b q run = let i = along q run in lawful seen entry q i.holds i.entered
+    where
+      along : (q : Point C N) → Run sets puts nexts transfers lists stamps updates seen p q → Invariant q
+      along _ here = let i = opened sets seen entry setting o link p b in record { holds = i.0; entered = i.1 }
+      along _ (writes {q = q} bytes given given' frame frame' request answer store' r w c run lends d) = writes_step q (along q run) bytes given given' frame frame' request answer store' r w c lends d
+      along _ (heeds {q = q} given frame request answer answer' store' r w c run lends d) = heeds_step q (along q run) given frame request answer answer' store' r w c lends d
+      along _ (beats {q = q} time given frame frame' request answer store' r w c run lends d) = beats_step q (along q run) time given frame frame' request answer store' r w c lends d
+      along _ (finishes {q = q} given frame frame' request answer store' r w c run lends d) = finishes_step q (along q run) given frame frame' request answer store' r w c lends d
+      along _ (recovers {q = q} time given frame frame' request request' answer answer' store' r w c n run lends d) = recovers_step q (along q run) time given frame frame' request request' answer answer' store' r w c n lends d
