@@ -1,0 +1,17 @@
+//! The law of every run.
+ghost use Rattle.runs.specs.Begins.{Begins};
+ghost use Rattle.runs.specs.Law.{Law};
+ghost use Rattle.runs.specs.Runs.{Point, Run};
+ghost use Rattle.writer.specs.declared.opening.Opening.{Opening};
+
+use chain::meaning::Chain;
+use namenode::meaning::Namenode;
+
+/// After an opening without refusal, whatever calls follow in whatever order, accepted or refused, over every pipeline and namenode that
+/// mean what theirs do: no accepted byte is lost, doubled or put in another place.
+pub fn law_stands<C: Chain, N: Namenode>()
+    ensures { (opening : Opening) (link : C) (p q : Point C N)
+        → Begins C.Link.sets C.Chain.seen N.Namenode.entry opening link p
+        → Run C.Link.sets C.Link.puts C.Link.nexts C.Link.transfers N.NamenodeProtocol.lists N.NamenodeProtocol.stamps N.NamenodeProtocol.updates C.Chain.seen p q
+        → Law C.Chain.seen N.Namenode.entry q }
+{}
