@@ -49,8 +49,6 @@ impl Error for AskError {}
 pub fn ask<L: Link>(link: &mut L, answer: &mut [u8]) -> Result<Option<Verdict>, AskError>
     ensures { Hears L.Link.nexts link.old answer.old answer.new link.new result }
 {
-    match link.next(answer)? {
-        None => Ok(None),
-        Some(len) => Ok(Some(judge(&answer[0..len])?)),
-    }
+    let came = link.next(answer)?;
+    Ok(came.map(|len| judge(&answer[0..len])).transpose()?)
 }
