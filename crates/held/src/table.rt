@@ -36,7 +36,7 @@ impl HeldTable {
     }
 
     /// One record, lent to be changed.
-    pub fn record(&mut self, i: usize) -> &mut HeldPacket
+    fn record(&mut self, i: usize) -> &mut HeldPacket
         requires { i < vec_len self.old.records }
         ensures* follows { sem 𝓛 (follows the_row packet-row self.entry.ghost_name result.ghost_name (λ w. record { records = with_item self.old.records i w; table = self.old.table })) }
         ensures value { result.now ≡ slice_index_or self.old.records.items i result.now }
