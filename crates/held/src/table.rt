@@ -15,6 +15,7 @@ pub struct HeldPacket {
 
 /// A record for each slot that a store may have. A place is a number below theirs: a type for it would be made and taken apart at each call.
 #[derive(Drop)]
+// No VecDeque: a record stands at the number of the packet's slot in the caller's store, which is counted by the same remainder.
 pub struct HeldTable {
     pub records: Vec<HeldPacket>,
     ghost table: { vec_len records ≡ 101 },
