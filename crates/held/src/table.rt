@@ -15,6 +15,7 @@ pub struct HeldPacket {
 
 /// A record for each slot that a store may have. A place is a number below theirs: a type for it would be made and taken apart at each call.
 #[derive(Drop)]
+// No VecDeque: a record stands at the number of the packet's slot in the caller's store, which is counted by the same remainder.
 pub struct HeldTable {
     pub records: Vec<HeldPacket>,
     ghost table: { vec_len records ≡ 101 },
@@ -36,7 +37,7 @@ impl HeldTable {
     }
 
     /// One record, lent to be changed.
-    pub fn record(&mut self, i: usize) -> &mut HeldPacket
+    fn record(&mut self, i: usize) -> &mut HeldPacket
         requires { i < vec_len self.old.records }
         ensures* follows { sem 𝓛 (follows the_row packet-row self.entry.ghost_name result.ghost_name (λ w. record { records = with_item self.old.records i w; table = self.old.table })) }
         ensures value { result.now ≡ slice_index_or self.old.records.items i result.now }

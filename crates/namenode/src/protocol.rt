@@ -43,6 +43,7 @@ pub trait NamenodeProtocol: Sized {
     ghost updates: { Self → Entry → Bool → Self → Type 0 };
 
     /// Asks for a list of datanodes with one more than those that are left.
+    // The parameters stay apart, as those of `update_pipeline`: they are HDFS's own, and a struct of them would be made for the one call.
     fn get_additional_datanode(
         &mut self,
         size: u64,

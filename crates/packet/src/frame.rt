@@ -16,6 +16,7 @@ pub(crate) const LENGTH_LIMIT: usize = 0x8000_0000;
 
 /// A packet as it is written and read: its place in the block, its number, whether it is the last, and its data.
 #[derive(Clone, Copy, Debug, PartialEq, Eq)]
+// No chunk size in it: a frame does not say it, so that each call takes it beside the packet.
 pub struct WritePacket<'a> {
     pub offset: u64,
     pub seqno: u64,

@@ -49,6 +49,7 @@ fn put_front(out: &mut [u8], header: PacketHeader, whole: u32)
 
 /// The packet whose frame these octets are, with nothing after it: the one packet that is written so.
 /// `None` says that there is none.
+// An Option: whatever is wrong with a frame, a far end takes it for lost.
 pub fn read_frame(bytes: &[u8]) -> Option<Frame<'_>>
     ensures { Reads bytes.now (packet_in result) }
 {

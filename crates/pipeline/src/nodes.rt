@@ -15,6 +15,7 @@ pub struct NodeTable {
     ghost room: { 8 ≤ vec_capacity rows },
 }
 
+// That the capacity stays is said at each change, since the invariant says only that there is enough: no call takes memory, or gives it up.
 impl NodeTable {
     ghost use Rattle.std.specs.Borrow.{sem, follows};
     ghost use Rattle.std.specs.Vec.{with_item};
@@ -36,7 +37,7 @@ impl NodeTable {
     }
 
     /// One row, to be changed.
-    pub fn row(&mut self, i: usize) -> &mut Datanode
+    fn row(&mut self, i: usize) -> &mut Datanode
         requires { i < vec_len self.old.rows }
         ensures* follows { sem 𝓛 (follows the_row Node-row self.entry.ghost_name result.ghost_name (λ w. record { rows = with_item self.old.rows i w; room = self.old.room })) }
         ensures value { result.now ≡ slice_index_or self.old.rows.items i result.now }
@@ -80,6 +81,7 @@ impl NodeTable {
         ensures items { self.new.rows.items ≡ list.now }
         ensures capacity { vec_capacity self.new.rows ≡ vec_capacity self.old.rows }
     {
+        // Stays by the place: the rows are changed in place, in the memory taken at the opening, as the project's memory rule wants it.
         for (i, node) in list.iter().enumerate() {
             self.put(i, node);
         }

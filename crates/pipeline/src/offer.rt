@@ -8,6 +8,7 @@ use proto::datanode::Datanode;
 use proto::token::Token;
 
 /// The datanode of a row, where the row is in form.
+// Not `TryFrom`: neither the row's type nor the datanode's is of this crate. An Option, since to be out of form is the one way to fail.
 pub fn read_node(row: Offered<'_>) -> Option<Datanode>
     ensures { NodeRead (row_in row.entry) result }
 {

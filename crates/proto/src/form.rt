@@ -53,6 +53,7 @@ impl Kind {
 
 impl Rule {
     // The place past the field of this rule: `at` itself where an optional one is absent.
+    // Answers a place, as `read_field` does: the next rule goes on there, and how long the field is follows from the two places.
     fn past(self, input: &[u8], at: usize) -> Option<usize>
         ensures { result ≡ rule_at self at input.now }
     {
@@ -66,6 +67,7 @@ impl Rule {
         (field.is_shortest(next - at) && self.kind.fits(field)).then_some(next)
     }
 
+    // A function, since a rule can be absent in two ways. Answers a place, as `past` does for both.
     fn absent(self, at: usize) -> Option<usize>
         ensures { result ≡ absent self at }
     {

@@ -42,6 +42,7 @@ pub fn any_same(nodes: &[Datanode], node: &Datanode) -> bool
 }
 
 /// The position of the first datanode of `list` whose ip and port none of `old` has.
+// Answers a position: the source is found beside it.
 pub fn first_new(list: &[Datanode], old: &[Datanode]) -> Option<usize>
     ensures { result ≡ first_new 0 list.now old.now }
 {
@@ -49,6 +50,7 @@ pub fn first_new(list: &[Datanode], old: &[Datanode]) -> Option<usize>
 }
 
 /// The position of the new datanode and that of its source, which is the one before it, or position 1 where it is the first.
+// Answers positions and no datanodes: a recovery tells its caller where in the namenode's list the two stand.
 pub fn choose(list: &[Datanode], old: &[Datanode]) -> Result<(usize, usize), NoChoice>
     ensures { result ≡ choice_of list.now old.now }
 {

@@ -10,6 +10,9 @@ use proto::datanode::Datanode;
 use wire::encode::{Bytes, Each, Message, Nested, Then, Uint};
 use wire::row::ByField;
 
+/// `CHECKSUM_CRC32C` of `ChecksumTypeProto`.
+const CHECKSUM_CRC32C: u64 = 2;
+
 // `stage` to `requestedChecksum` of a pipeline to be set up.
 #[derive(Clone, Copy)]
 struct Construction {
@@ -108,7 +111,7 @@ macro_rules! write_parts {
                         Nested {
                             tag: 9,
                             message: Then(
-                                Uint { tag: 1, value: 2 },
+                                Uint { tag: 1, value: CHECKSUM_CRC32C },
                                 Uint { tag: 2, value: u64::from($request.chunk_size) },
                             ),
                         },

@@ -26,6 +26,7 @@ pub struct Setup {
 
 impl Setup {
     /// The set up that a whole request asks for, where the octets are such a request.
+    // An Option: whatever is wrong with a request, a far end takes it for lost.
     pub fn read(request: &[u8]) -> Option<Setup>
         ensures { result ≡ setup_of request.now }
     {

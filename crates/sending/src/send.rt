@@ -46,6 +46,8 @@ fn put_and_ask<L: Link>(
 }
 
 /// Writes the packet's frame to the front of `buf`, puts it on the link, and where it was taken asks once for an answer.
+// The chunk size stands beside the packet: a packet that is read from a frame has none, since no frame says it.
+// The link and the answer's buffer stay two: a struct of both would be made by the caller and taken apart here, at each packet.
 pub fn send_packet<L: Link>(
     link: &mut L,
     packet: WritePacket<'_>,

@@ -19,6 +19,7 @@ use proto::datanode::Datanode;
 use request::setup::Setup;
 
 // The response of status 0, at the front of `answer`.
+// The length is told beside the answer's buffer, as `Link` wants it: nothing is allocated, and the contract speaks of the whole buffer.
 fn respond(answer: &mut [u8]) -> Result<usize, LinkLost>
     ensures { responded answer.old answer.new result }
 {
@@ -31,6 +32,7 @@ fn respond(answer: &mut [u8]) -> Result<usize, LinkLost>
 }
 
 // An answer in which every node says that it has the packet.
+// Answers the length beside the answer's buffer, as `write_ack` does, whose answer it hands on.
 fn write_good(answer: &mut [u8], seqno: u64, nodes: usize) -> Option<usize>
     requires { nodes ≤ 8 }
     ensures { answered seqno (replicate nodes 0) answer.old answer.new result }

@@ -177,6 +177,7 @@ impl<A: Message, B: Message> Message for Then<A, B> {
 
 /// One field, of any kind.
 #[derive(Clone, Copy)]
+// Beside `Field`, which is read and has a place in its message: a field that is to be written has none yet.
 pub enum OneField<'a> {
     Uint(Uint),
     Fixed64 { tag: u32, value: u64 },
@@ -207,6 +208,7 @@ impl<'a> Message for OneField<'a> {
 }
 
 /// How one row of a table is written as a field.
+// Beside `RowField`, whose rows each hand one field out: a row that is written otherwise says its length and its octets itself.
 pub trait FieldOf<T> {
     ghost field: { T → WireField };
 

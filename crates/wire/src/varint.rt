@@ -56,6 +56,7 @@ impl VarintReader {
 
 /// The varint at `at`, of at most ten octets and below 2^64, and the place past it.
 #[tactic(auto, unfolding(crate::specs::Read::varint_at))]
+// A message and a place, as `read_field`, which goes on at the place past the varint.
 pub fn read_varint(input: &[u8], at: usize) -> Result<(u64, usize), Fault>
     ensures value { result ≡ varint_at at input.now }
     ensures within { IfOk result (λ x. (at < x.1) × (x.1 ≤ length input.now)) }

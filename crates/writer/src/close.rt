@@ -14,12 +14,7 @@ impl Writer {
         ensures { result ≡ closed (view_of self) }
     {
         match self.state {
-            State::Complete => Ok(ExtendedBlock {
-                pool_id: self.terms.pool_id,
-                block_id: self.terms.block_id,
-                generation_stamp: self.stamp,
-                num_bytes: self.len,
-            }),
+            State::Complete => Ok(self.block()),
             State::Streaming | State::Finishing | State::Broken { .. } | State::Closed => {
                 Err(Refusal::Incomplete(self.count))
             }

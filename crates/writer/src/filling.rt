@@ -63,6 +63,8 @@ impl Writer {
     }
 
     /// Holds the packet being filled, and begins the next.
+    // Room for one packet more is asked for (`count_bound`), and is no invariant: a writer whose store is full is one too, and waits.
+    // So are numbers within the length (`initial_len_bound`): the packet has bytes or is the last, which its call knows and no type says.
     pub(crate) fn hold(&mut self)
         requires count_bound { self.old.count + 1 < self.old.terms.slots }
         requires initial_len_bound { self.old.first + self.old.count + 1 + self.old.terms.initial_len ≤ self.old.len + last_ones self.old.state }

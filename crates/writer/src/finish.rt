@@ -36,6 +36,7 @@ impl Writer {
     }
 
     // Hands over the empty last packet.
+    // Room for the packets that end the block was looked at once, by `admit_finish`, which refuses where there is none.
     fn end<L: Link>(&mut self, link: &mut L, store: &[u8], frame: &mut [u8]) -> Finished
         requires state_value { self.old.state ≡ Streaming }
         requires store_len { length store.now ≡ self.old.terms.store_len }
@@ -52,6 +53,7 @@ impl Writer {
     }
 
     // Holds the last packet, which is not sent, since the one before it was lost.
+    // The numbers are asked to stay within the length: no type says that the last packet is not counted yet.
     fn hold_last(&mut self, seqno: u64)
         requires filling_value { self.old.filling ≡ 0 }
         requires count_bound { self.old.count + 1 < self.old.terms.slots }

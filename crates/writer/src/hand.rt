@@ -68,6 +68,7 @@ impl Writer {
 
     /// Hands the packet being filled over: it is held, the next one begins, and its frame is put. Where the frame was lost the pipeline is
     /// broken.
+    // What `hold` asks for is asked for here too: a turn and a finish look at it before they hand a packet over.
     pub(crate) fn hand_over<L: Link>(
         &mut self,
         link: &mut L,

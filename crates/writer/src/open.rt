@@ -58,6 +58,7 @@ impl Terms {
 
 impl Tables {
     // A writer that has taken nothing, on these tables and the datanodes in them.
+    // That these are at most eight is asked for, here and below: a table has room for eight at the least, and says no more of its rows.
     fn into_writer(self, terms: Terms, token: Token, state: State, stamp: u64, time: u64) -> Writer
         requires fits { Fits terms }
         requires few { length self.nodes.rows.items ≤ 8 }

@@ -27,6 +27,7 @@ use request::stage::Stage;
 use sending::put::put_packet;
 
 /// It is known how many bytes all datanodes have.
+// The least length goes from stage to stage, and a step asks that it is the writer's: a stage that said so would have to hold the writer.
 pub struct Counted {
     least: u64,
 }

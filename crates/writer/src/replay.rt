@@ -61,6 +61,7 @@ fn is_last(finished: bool, i: usize, count: usize) -> bool
 
 impl SetUp {
     /// Puts all held packets again, by number. One that is lost ends this.
+    // `least` is asked to be this writer's: with the held packets' bytes it stays within the block's length, so that no offset wraps.
     pub(crate) fn replay<L: Link>(
         self,
         link: &mut L,

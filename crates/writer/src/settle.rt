@@ -56,6 +56,7 @@ fn slots_in(store_len: usize, capacity: usize) -> usize
 }
 
 // What stays of an opening that is not refused.
+// That the opening passed each look is asked for: a type of what has passed would be made for this one function.
 fn terms_for(opening: Opening<'_>, size: PacketSize, forms: Forms, lens: Lens) -> Terms
     requires chunk_value { (size.chunk ≡ opening.chunk_size) × (size.packet ≡ opening.packet_size) }
     requires opening_value { (by_length opening ≡ None) × (by_buffers opening lens ≡ None) }
