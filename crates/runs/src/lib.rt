@@ -1,4 +1,5 @@
-//! Every run of calls on a writer, and the law that holds of it.
+//! Runs of calls on a writer, and the law that holds of every run.
 #![tactic(auto)]
 
+pub mod command;
 pub mod law;
