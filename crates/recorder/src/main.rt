@@ -32,6 +32,7 @@ fn run(rt: &HostRuntime) -> anyhow::Result<()> {
     rt.stdin().read_to_end(&mut text)?;
     let mut block = Vec::new(rt.alloc());
     take_lines(rt, text.as_slice(), options.block, &mut block)?;
+    // Size and block go on as two, and so does the replacement: a struct of them would be made here and taken apart in each part.
     send_block(rt, size, block.as_slice())?;
     let replace = options.replacement();
     keep_block(rt, &options, size, replace, block.as_slice())?;

@@ -29,6 +29,7 @@ fn refused(what: &str, refusal: Refusal) -> anyhow::Error {
 }
 
 /// Opens the block, writes and finishes it, mends the pipeline as often as it breaks, and closes the block. Each recovery is told.
+// The size stands beside the opening, which has its two numbers as they came from outside, and not looked at.
 pub fn write_block<C: Chain, N: Namenode>(
     rt: &HostRuntime,
     opening: Opening<'_>,
