@@ -1,4 +1,5 @@
 //! The block that goes through the writer.
+use crate::memory::show_memory;
 use crate::sink::Sink;
 use anyhow::{anyhow, bail, ensure};
 use packet::size::PacketSize;
@@ -91,7 +92,11 @@ impl Buffers {
 }
 
 // Heeds the answers that have come, and counts those that confirm a packet.
-fn heed_all(writer: &mut Writer, sink: &mut Sink<Spool>, buffers: &mut Buffers) -> anyhow::Result<u64> {
+fn heed_all(
+    writer: &mut Writer,
+    sink: &mut Sink<Spool>,
+    buffers: &mut Buffers,
+) -> anyhow::Result<u64> {
     let mut confirmed = 0u64;
     for _ in 0..SLOTS {
         let heeded = writer
@@ -157,6 +162,7 @@ pub fn write_mebibytes(rt: &HostRuntime, mebibytes: usize) -> anyhow::Result<Wri
         &mut buffers.answer,
     )?;
     outcome.map_err(refused)?;
+    show_memory(rt, &writer)?;
     let mut packets = 0u64;
     for _ in 0..mebibytes {
         let confirmed = write_part(&mut writer, &mut sink, &mut buffers, &part)?;

@@ -2,6 +2,7 @@
 #![tactic(auto)]
 
 mod block;
+mod memory;
 mod sink;
 
 use anyhow::{Context, ensure};
