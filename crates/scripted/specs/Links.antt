@@ -29,6 +29,7 @@ number_in (Ok ack) = cond (ack.replies.failed.count == 0) (Some ack.seqno) None
 number_in (Err e) = None
 
 number_read : (r : Result AckFields DecodeError) → number_if r ≡ number_in (and_then r (λ a. Ok (held a)))
+unfolding held
 number_read (Ok a) = refl
 number_read (Err e) = refl
 

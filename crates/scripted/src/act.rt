@@ -33,6 +33,14 @@ pub struct Call {
 }
 
 impl Act {
+    /// How many bytes it writes.
+    pub fn written(&self) -> usize {
+        match self {
+            Act::Write(bytes) => bytes.len(),
+            _ => 0,
+        }
+    }
+
     /// The call of a line of these words, where it is one.
     pub fn read(heap: Global, words: &[&str]) -> Result<Option<Act>, ScriptError> {
         let act = match words {

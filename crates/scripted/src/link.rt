@@ -1,5 +1,5 @@
 //! A link that follows a script: its packets are kept by a spool, and what is answered is the script's.
-ghost use Rattle.std.specs.Prelude.{◌≡◌, None, Some};
+ghost use Rattle.std.specs.Prelude.{◌≡◌, ◌≤◌, length};
 ghost use Rattle.ack.specs.Held.{ack_read};
 ghost use Rattle.chain.specs.Acts.{Front};
 ghost use Rattle.spool.specs.Spools.{view_of, seen_in};

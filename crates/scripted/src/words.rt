@@ -2,6 +2,7 @@
 use crate::error::ScriptError;
 use proto::datanode::Datanode;
 use std::alloc::{AllocError, Global};
+use wire::find::find;
 use wire::varint::read_varint;
 
 /// The octets of a text.
@@ -39,5 +40,13 @@ pub fn generated(heap: Global, seed: u32, count: usize) -> Result<Vec<u8>, Alloc
 pub fn address_of(heap: Global, node: &Datanode) -> Result<String, AllocError> {
     let ip = str::from_utf8(node.ip_addr()).unwrap_or("");
     let port = node.xfer_port();
+    format!(in heap; "{ip}:{port}")
+}
+
+/// The address in a `DatanodeInfoProto`, which may be out of form.
+pub fn address_in(heap: Global, info: &[u8]) -> Result<String, AllocError> {
+    let id: &[u8] = find(info, 1);
+    let ip = str::from_utf8(find(id, 1)).unwrap_or("");
+    let port: u64 = find(id, 4);
     format!(in heap; "{ip}:{port}")
 }
