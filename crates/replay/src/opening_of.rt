@@ -1,12 +1,13 @@
 //! The block opened.
 use crate::page::Page;
 use crate::replay_run::{Replay, Stage, UUID};
+use writer::open::Opened;
 use writer::opening::Opening;
 use writer::state::Writer;
 
 impl Replay {
-    /// Opens the block with what the script says, and tells what came of it.
-    pub fn open(&mut self, page: &Page<'_>) -> anyhow::Result<()> {
+    // Opens the block with what the script says.
+    fn open_block(&mut self) -> anyhow::Result<Opened> {
         let heap = self.heap;
         let opening = &self.opening;
         let nodes = opening.nodes.as_slice();
@@ -20,7 +21,7 @@ impl Replay {
             .iter()
             .map(|row| u8::try_from(row.storage_type).unwrap_or(u8::MAX))
             .collect(heap)?;
-        let opened = Writer::open(
+        Ok(Writer::open(
             heap,
             Opening {
                 path: opening.path.as_slice(),
@@ -45,7 +46,12 @@ impl Replay {
             self.buffers.frame.as_slice(),
             self.buffers.request.as_mut_slice(),
             self.buffers.answer.as_mut_slice(),
-        )?;
+        )?)
+    }
+
+    /// Opens the block, and tells what came of it.
+    pub fn open(&mut self, page: &Page<'_>) -> anyhow::Result<()> {
+        let opened = self.open_block()?;
         self.show_events(page)?;
         match opened.outcome {
             Ok(()) => {

@@ -17,6 +17,7 @@ const LONG_FRAME: usize = 1024;
 const HEAD: usize = 64;
 
 /// Where the transcript goes.
+#[derive(Drop)]
 pub struct Page<'a> {
     pub rt: &'a HostRuntime,
     /// Whether long frames are shown whole.
