@@ -3,12 +3,11 @@ use crate::buffers::Buffers;
 use crate::page::Page;
 use ack::tally::FailedNodes;
 use anyhow::ensure;
-use scripted::act::Act;
+use scripted::act::{Act, Call};
 use scripted::clock::Clock;
 use scripted::link::ScriptedLink;
 use scripted::log::Log;
 use scripted::opening::ScriptedOpening;
-use scripted::plans::{LinkPlans, NamenodePlans};
 use scripted::scripted_namenode::ScriptedNamenode;
 use scripted::words::framed;
 use spool::state::Spool;
@@ -74,8 +73,6 @@ impl Replay {
     pub fn new(
         heap: Global,
         opening: ScriptedOpening,
-        link: LinkPlans,
-        namenode: NamenodePlans,
         written: usize,
     ) -> anyhow::Result<Replay> {
         let clock = Clock::new(heap)?;
@@ -83,9 +80,9 @@ impl Replay {
         let mut kept = Vec::with_capacity(heap, initial.saturating_add(written))?;
         kept.resize(initial, 0u8)?;
         let spool = Spool::over(heap, kept, NODES)?;
-        let link = ScriptedLink::new(heap, spool, link, Log::new(heap, clock.share()?));
+        let link = ScriptedLink::new(heap, spool, Log::new(heap, clock.share()?));
         let log = Log::new(heap, clock);
-        let namenode = ScriptedNamenode::new(heap, &opening, UUID, namenode, log)?;
+        let namenode = ScriptedNamenode::new(heap, &opening, UUID, log)?;
         let buffers = Buffers::new(heap, &opening)?;
         let len = opening.initial_len;
         Ok(Replay {
@@ -135,12 +132,21 @@ impl Replay {
     }
 
     /// Makes a call of the script, and tells what came of it.
-    pub fn make(&mut self, page: &Page<'_>, act: &Act) -> anyhow::Result<()> {
-        let is_writers = matches!(act, Act::Open | Act::Write(_) | Act::Finish);
+    pub fn make(&mut self, page: &Page<'_>, call: Call) -> anyhow::Result<()> {
+        let Call {
+            line,
+            act,
+            link,
+            namenode,
+        } = call;
+        self.link.plan(link)?;
+        self.namenode.plan(namenode)?;
+        println!(page.rt; "> {line}")?;
+        let is_writers = matches!(&act, Act::Open | Act::Write(_) | Act::Finish);
         if self.stage == Stage::Over && is_writers {
             return page.line("no-writer");
         }
-        self.act(page, act)?;
+        self.act(page, &act)?;
         self.settle(page)
     }
 

@@ -1,5 +1,6 @@
 //! The calls of a script.
 use crate::error::ScriptError;
+use crate::plans::{LinkPlans, NamenodePlans};
 use crate::words::{generated, octets};
 use std::alloc::Global;
 
@@ -25,11 +26,13 @@ pub enum Act {
     Drop,
 }
 
-/// A call, with its line as it stands in the script.
+/// A call, with its line as it stands in the script, and the plans that stand before it and behind the call before.
 #[derive(Drop)]
 pub struct Call {
     pub line: String,
     pub act: Act,
+    pub link: LinkPlans,
+    pub namenode: NamenodePlans,
 }
 
 impl Act {

@@ -30,14 +30,18 @@ pub struct Connection {
 }
 
 impl Connection {
-    pub(crate) fn new(heap: Global, plans: LinkPlans, log: Log) -> Connection {
+    pub(crate) fn new(heap: Global, log: Log) -> Connection {
         Connection {
-            plans,
+            plans: LinkPlans::new(heap),
             count: 0,
             line: Line::Closed,
             incoming: VecDeque::new(heap),
             log,
         }
+    }
+
+    pub(crate) fn plan(&mut self, plans: LinkPlans) -> Result<(), AllocError> {
+        self.plans.add(plans)
     }
 
     // Writes a request to that datanode down. A datanode that is down gets none.

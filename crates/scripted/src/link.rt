@@ -54,11 +54,18 @@ fn lay(message: &[u8], answer: &mut [u8]) -> usize
 
 impl ScriptedLink {
     /// A link over a spool of at most eight nodes.
-    pub fn new(heap: Global, spool: Spool, plans: LinkPlans, log: Log) -> ScriptedLink {
+    pub fn new(heap: Global, spool: Spool, log: Log) -> ScriptedLink {
         ScriptedLink {
             spool,
-            connection: Connection::new(heap, plans, log),
+            connection: Connection::new(heap, log),
         }
+    }
+
+    /// Has more planned, behind what is.
+    pub fn plan(&mut self, plans: LinkPlans) -> Result<(), AllocError>
+        ensures { self.new.spool ≡ self.old.spool }
+    {
+        self.connection.plan(plans)
     }
 
     /// The bytes that all nodes have confirmed.

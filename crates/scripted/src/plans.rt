@@ -1,6 +1,6 @@
 //! What the chain and the namenode of a script answer, first in first out.
 use crate::opening::NodeRow;
-use std::alloc::Global;
+use std::alloc::{AllocError, Global};
 use std::collections::VecDeque;
 
 /// What comes of a request to a datanode.
@@ -28,6 +28,13 @@ impl LinkPlans {
             transfers: VecDeque::new(heap),
             down: Vec::new(heap),
         }
+    }
+
+    // Puts more plans behind these.
+    pub(crate) fn add(&mut self, mut more: LinkPlans) -> Result<(), AllocError> {
+        self.setups.append(&mut more.setups)?;
+        self.transfers.append(&mut more.transfers)?;
+        self.down.append(&mut more.down)
     }
 }
 
@@ -60,5 +67,12 @@ impl NamenodePlans {
             stamps: VecDeque::new(heap),
             updates: VecDeque::new(heap),
         }
+    }
+
+    // Puts more plans behind these.
+    pub(crate) fn add(&mut self, mut more: NamenodePlans) -> Result<(), AllocError> {
+        self.lists.append(&mut more.lists)?;
+        self.stamps.append(&mut more.stamps)?;
+        self.updates.append(&mut more.updates)
     }
 }

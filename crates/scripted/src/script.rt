@@ -5,14 +5,16 @@ use crate::lines::take_item;
 use crate::opening::ScriptedOpening;
 use crate::plans::{LinkPlans, NamenodePlans};
 use std::alloc::Global;
+use std::mem;
 
-/// A whole script: its plans may stand anywhere in it, so they are read before the first call is made.
+/// A script. What the block is opened with stands before its opening, and a plan anywhere before it is used.
 #[derive(Drop)]
 pub struct Script {
     pub opening: ScriptedOpening,
-    pub link: LinkPlans,
-    pub namenode: NamenodePlans,
     pub calls: Vec<Call>,
+    // The plans behind the last call.
+    pub(crate) link: LinkPlans,
+    pub(crate) namenode: NamenodePlans,
 }
 
 impl Script {
@@ -20,9 +22,9 @@ impl Script {
     pub fn new(heap: Global) -> Script {
         Script {
             opening: ScriptedOpening::new(heap),
+            calls: Vec::new(heap),
             link: LinkPlans::new(heap),
             namenode: NamenodePlans::new(heap),
-            calls: Vec::new(heap),
         }
     }
 
@@ -35,8 +37,13 @@ impl Script {
         let words: Vec<&str> = line.split_whitespace().collect(heap)?;
         match Act::read(heap, words.as_slice())? {
             Some(act) => {
-                let line = String::from_str(heap, line)?;
-                self.calls.push(Call { line, act })?;
+                let call = Call {
+                    line: String::from_str(heap, line)?,
+                    act,
+                    link: mem::replace(&mut self.link, LinkPlans::new(heap)),
+                    namenode: mem::replace(&mut self.namenode, NamenodePlans::new(heap)),
+                };
+                self.calls.push(call)?;
                 Ok(())
             }
             None => take_item(heap, self, words.as_slice()),

@@ -34,12 +34,11 @@ impl ScriptedNamenode {
         heap: Global,
         opening: &ScriptedOpening,
         uuid: &str,
-        plans: NamenodePlans,
         log: Log,
     ) -> Result<ScriptedNamenode, AllocError> {
         Ok(ScriptedNamenode {
             house: House::new(heap, opening.stamp, opening.initial_len, &[], Token::none())?,
-            plans,
+            plans: NamenodePlans::new(heap),
             client: Client::new(heap, opening, uuid)?,
             offered: OfferedList {
                 rows: Vec::new(heap),
@@ -48,6 +47,13 @@ impl ScriptedNamenode {
             token: Vec::new(heap),
             log,
         })
+    }
+
+    /// Has more planned, behind what is.
+    pub fn plan(&mut self, plans: NamenodePlans) -> Result<(), AllocError>
+        ensures { self.new.house ≡ self.old.house }
+    {
+        self.plans.add(plans)
     }
 
     /// What was written down since the last taking.
