@@ -70,11 +70,7 @@ fn room_for(opening: &ScriptedOpening) -> anyhow::Result<usize> {
 }
 
 impl Replay {
-    pub fn new(
-        heap: Global,
-        opening: ScriptedOpening,
-        written: usize,
-    ) -> anyhow::Result<Replay> {
+    pub fn new(heap: Global, opening: ScriptedOpening, written: usize) -> anyhow::Result<Replay> {
         let clock = Clock::new(heap)?;
         let initial = room_for(&opening)?;
         let mut kept = Vec::with_capacity(heap, initial.saturating_add(written))?;

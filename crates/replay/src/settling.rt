@@ -18,8 +18,8 @@ impl Replay {
         Ok(())
     }
 
-    // Heeds all answers that have come, up to one that breaks the pipeline or ends the block.
-    fn heed_all(&mut self) -> Result<(), Refusal> {
+    /// Heeds all answers that have come, up to one that breaks the pipeline or ends the block.
+    pub fn heed_all(&mut self) -> Result<(), Refusal> {
         // A count: a link that has an answer each time would never let this end.
         for _ in 0..u32::MAX {
             if self.broken.is_some() || self.complete {
@@ -73,6 +73,7 @@ impl Replay {
 
     // A write: answers are heeded, and the writer takes more where they freed slots.
     fn settle_write(&mut self, page: &Page<'_>) -> anyhow::Result<()> {
+        // A refusal closes the writer, which says so at its next call.
         let _ = self.heed_all();
         if !self.is_written() {
             self.go_on_writing(page)?;
@@ -93,12 +94,8 @@ impl Replay {
         match self.stage {
             Stage::Finishing => self.settle_end(page),
             Stage::Writing => self.settle_write(page),
-            // A refusal closes the writer, which says so at its next call.
-            Stage::Idle => {
-                let _ = self.heed_all();
-                self.show_events(page)
-            }
-            Stage::Before | Stage::Over => self.show_events(page),
+            // An answer that has come is heeded at the end of the next write, which is where the original looks at what it heard.
+            Stage::Before | Stage::Idle | Stage::Over => self.show_events(page),
         }
     }
 }

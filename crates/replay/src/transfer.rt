@@ -35,7 +35,10 @@ pub fn choice_of(
     request: &[u8],
 ) -> Result<Option<(usize, usize)>, AllocError> {
     let target = target_of(request);
-    let new = list.rows.iter().position(|row| row.info.as_slice() == target);
+    let new = list
+        .rows
+        .iter()
+        .position(|row| row.info.as_slice() == target);
     let source = position_at(heap, list, address)?;
     Ok(new.zip(source))
 }

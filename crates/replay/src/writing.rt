@@ -39,13 +39,15 @@ impl Replay {
         let Some(writer) = self.writer.as_mut() else {
             return Ok(());
         };
+        let left = self.bytes.as_slice();
+        let left = left.get(self.taken..).unwrap_or(left);
         let written = writer.write(
             &mut self.link,
             self.buffers.store.as_mut_slice(),
             self.buffers.frame.as_mut_slice(),
             self.buffers.request.as_slice(),
             self.buffers.answer.as_slice(),
-            self.bytes.get(self.taken..).unwrap_or(&[]),
+            left,
         );
         match written {
             Ok(written) => {
@@ -82,14 +84,18 @@ impl Replay {
         self.note_loss(beat == Ok(Beat::Lost));
     }
 
-    /// Ends the block. A pipeline that broke before is mended first.
-    pub fn finish(&mut self, page: &Page<'_>) -> anyhow::Result<()> {
-        if self.stage != Stage::Idle {
-            return page.line("busy");
+    // Ends the block: at once, or after the answers that have come freed slots for the packets that end it.
+    fn finish_block(&mut self) -> Result<(), Refusal> {
+        match self.finish_once() {
+            Err(Refusal::Places) => {
+                self.heed_all()?;
+                self.finish_once()
+            }
+            finished => finished,
         }
-        if let Err(refusal) = self.recover(page)? {
-            return self.refuse(page, refusal, Stage::Over);
-        }
+    }
+
+    fn finish_once(&mut self) -> Result<(), Refusal> {
         let Some(writer) = self.writer.as_mut() else {
             return Ok(());
         };
@@ -99,14 +105,23 @@ impl Replay {
             self.buffers.frame.as_mut_slice(),
             self.buffers.request.as_slice(),
             self.buffers.answer.as_slice(),
-        );
-        match finished {
-            Ok(finished) => {
-                self.note_loss(finished.put_lost);
-                self.stage = Stage::Finishing;
-                Ok(())
-            }
-            Err(refusal) => self.refuse(page, refusal, Stage::Over),
+        )?;
+        self.note_loss(finished.put_lost);
+        Ok(())
+    }
+
+    /// Ends the block. A pipeline that broke before is mended first.
+    pub fn finish(&mut self, page: &Page<'_>) -> anyhow::Result<()> {
+        if self.stage != Stage::Idle {
+            return page.line("busy");
         }
+        if let Err(refusal) = self.recover(page)? {
+            return self.refuse(page, refusal, Stage::Over);
+        }
+        if let Err(refusal) = self.finish_block() {
+            return self.refuse(page, refusal, Stage::Over);
+        }
+        self.stage = Stage::Finishing;
+        Ok(())
     }
 }

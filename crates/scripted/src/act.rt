@@ -49,7 +49,11 @@ impl Act {
         let act = match words {
             ["open"] => Act::Open,
             ["write", bytes] => Act::Write(octets(heap, bytes)?),
-            ["write-gen", seed, count] => Act::Write(generated(heap, seed.parse()?, count.parse()?)?),
+            ["write-gen", seed, count] => Act::Write(generated(
+                heap,
+                seed.parse()?,
+                count.parse()?,
+            )?),
             ["time", seconds] => Act::Time(seconds.parse()?),
             ["finish"] => Act::Finish,
             ["answer", message] => Act::Answer(octets(heap, message)?),

@@ -18,9 +18,15 @@ pub enum Event {
         octets: Vec<u8>,
     },
     /// A frame was sent on the connection of that number, from 1 on.
-    Frame { connection: u64, octets: Vec<u8> },
+    Frame {
+        connection: u64,
+        octets: Vec<u8>,
+    },
     /// The namenode was asked.
-    Asked { method: Method, message: Vec<u8> },
+    Asked {
+        method: Method,
+        message: Vec<u8>,
+    },
     /// The namenode refused.
     Refused,
 }

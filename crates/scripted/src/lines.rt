@@ -84,7 +84,8 @@ impl NamenodePlans {
         match words {
             ["nn-list", "refuse"] => self.lists.push_back(None)?,
             ["nn-list", "ok", token, rows @ ..] => {
-                self.lists.push_back(Some(offered_list(heap, token, rows)?))?
+                self.lists
+                    .push_back(Some(offered_list(heap, token, rows)?))?
             }
             ["nn-stamp", "refuse"] => self.stamps.push_back(None)?,
             ["nn-stamp", stamp, token] => {

@@ -21,7 +21,8 @@ impl Message {
     }
 
     fn varint(&mut self, value: u64) -> Result<(), AllocError> {
-        self.octets.extend_from_slice(EncodedVarint::of(value).as_slice())
+        self.octets
+            .extend_from_slice(EncodedVarint::of(value).as_slice())
     }
 
     /// A number, as a varint.

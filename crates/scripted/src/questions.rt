@@ -21,11 +21,7 @@ pub struct Client {
 
 impl Client {
     /// The client of an opening, by its uuid.
-    pub fn new(
-        heap: Global,
-        opening: &ScriptedOpening,
-        uuid: &str,
-    ) -> Result<Client, AllocError> {
+    pub fn new(heap: Global, opening: &ScriptedOpening, uuid: &str) -> Result<Client, AllocError> {
         let name = format!(in heap; "{CLIENT_PREFIX}{uuid}")?;
         Ok(Client {
             heap,
