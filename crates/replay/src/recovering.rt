@@ -1,6 +1,6 @@
 //! A broken pipeline mended.
 use crate::page::Page;
-use crate::replay_run::Replay;
+use crate::session::Session;
 use writer::cause::Cause;
 use writer::recover::Recovered;
 use writer::refusal::Refusal;
@@ -8,7 +8,7 @@ use writer::refusal::Refusal;
 /// A pipeline that breaks again in its replay is mended so often at most.
 const ATTEMPTS: usize = 16;
 
-impl Replay {
+impl Session {
     // One recovery.
     fn recover_once(&mut self) -> Result<(), Refusal> {
         let Some(writer) = self.writer.as_mut() else {

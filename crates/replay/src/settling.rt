@@ -1,10 +1,10 @@
 //! What settles after each call, as the tasks of the original do between the calls.
 use crate::page::Page;
-use crate::replay_run::{Replay, Stage};
+use crate::session::{Session, Stage};
 use writer::heed::Heeded;
 use writer::refusal::Refusal;
 
-impl Replay {
+impl Session {
     /// Tells what the chain and the namenode wrote down, in their common order.
     pub fn show_events(&mut self, page: &Page<'_>) -> anyhow::Result<()> {
         let mut noted = self.link.take_events();

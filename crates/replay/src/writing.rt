@@ -1,11 +1,11 @@
 //! Bytes written, seconds that pass, and the block's end.
 use crate::page::Page;
-use crate::replay_run::{Replay, Stage};
+use crate::session::{Session, Stage};
 use writer::beat::Beat;
 use writer::cause::Cause;
 use writer::refusal::Refusal;
 
-impl Replay {
+impl Session {
     // A frame was lost, which counts against the first datanode.
     fn note_loss(&mut self, put_lost: bool) {
         if put_lost {

@@ -1,6 +1,6 @@
 -- What each call of a scripted link does to the spool that it keeps its packets in, as an act, and that this is what a chain's act means.
 -- Assumes nothing.
-use Rattle.std.specs.Prelude.{◌≡◌, ◌≢◌, ℕ, ◌<◌, ◌^◌, Bool, true, false, cond, List, [], ◌∷◌, ◌==◌, Some, None, Option, Ok, Err, Result, refl, replicate, nat_lt}
+use Rattle.std.specs.Prelude.{◌≡◌, ◌≢◌, ℕ, ◌^◌, Bool, true, false, cond, List, [], ◌∷◌, ◌==◌, Some, None, Option, Ok, Err, Result, refl, replicate, nat_lt}
 use Rattle.std.proofs.Common.{sym, ap, ◌∙◌, subst}
 use Rattle.std.proofs.lemmas.Bool.{and_parts, ltb-true}
 use Rattle.wire.specs.declared.field.DecodeError.{DecodeError}

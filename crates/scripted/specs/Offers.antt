@@ -1,5 +1,5 @@
 -- What a scripted namenode hands out, and what an update makes of the block's entry. Assumes nothing.
-use Rattle.std.specs.Prelude.{◌≡◌, Bool, true, false, List, map, vec_items}
+use Rattle.std.specs.Prelude.{◌≡◌, Bool, true, false, map, vec_items}
 use Rattle.namenode.specs.Entries.{Entry, Row, Offer}
 use Rattle.pool.specs.Books.{View, with_entry}
 use Rattle.scripted.specs.declared.opening.NodeRow.{NodeRow}

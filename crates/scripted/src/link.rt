@@ -54,7 +54,9 @@ fn lay(message: &[u8], answer: &mut [u8]) -> usize
 
 impl ScriptedLink {
     /// A link over a spool of at most eight nodes.
-    pub fn new(heap: Global, spool: Spool, log: Log) -> ScriptedLink {
+    pub fn new(heap: Global, spool: Spool, log: Log) -> ScriptedLink
+        ensures { result.spool ≡ spool }
+    {
         ScriptedLink {
             spool,
             connection: Connection::new(heap, log),
@@ -66,11 +68,6 @@ impl ScriptedLink {
         ensures { self.new.spool ≡ self.old.spool }
     {
         self.connection.plan(plans)
-    }
-
-    /// The bytes that all nodes have confirmed.
-    pub fn kept(&self) -> &[u8] {
-        self.spool.kept()
     }
 
     /// An answer comes. Without a connection it goes nowhere.

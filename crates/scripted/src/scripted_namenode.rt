@@ -63,7 +63,7 @@ impl ScriptedNamenode {
         self.log.take()
     }
 
-    /// The `DatanodeInfoProto`s of the list that was handed out last, in its order.
+    /// The list that was handed out last.
     pub fn offered_list(&self) -> &OfferedList {
         &self.offered
     }

@@ -40,7 +40,7 @@ pub enum Stage {
 
 /// A run.
 #[derive(Drop)]
-pub struct Replay {
+pub struct Session {
     pub heap: Global,
     pub opening: ScriptedOpening,
     pub link: ScriptedLink,
@@ -69,8 +69,8 @@ fn room_for(opening: &ScriptedOpening) -> anyhow::Result<usize> {
     Ok(opening.initial_len as usize)
 }
 
-impl Replay {
-    pub fn new(heap: Global, opening: ScriptedOpening, written: usize) -> anyhow::Result<Replay> {
+impl Session {
+    pub fn new(heap: Global, opening: ScriptedOpening, written: usize) -> anyhow::Result<Session> {
         let clock = Clock::new(heap)?;
         let initial = room_for(&opening)?;
         let mut kept = Vec::with_capacity(heap, initial.saturating_add(written))?;
@@ -81,7 +81,7 @@ impl Replay {
         let namenode = ScriptedNamenode::new(heap, &opening, UUID, log)?;
         let buffers = Buffers::new(heap, &opening)?;
         let len = opening.initial_len;
-        Ok(Replay {
+        Ok(Session {
             heap,
             opening,
             link,

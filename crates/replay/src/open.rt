@@ -1,16 +1,45 @@
 //! The block opened.
 use crate::page::Page;
-use crate::replay_run::{Replay, Stage, UUID};
+use crate::session::{Session, Stage, UUID};
+use scripted::opening::ScriptedOpening;
 use writer::open::Opened;
 use writer::opening::Opening;
 use writer::state::Writer;
 
-impl Replay {
+// What the writer is opened with; the lists are those of the script's datanodes.
+fn opening_of<'a>(
+    script: &'a ScriptedOpening,
+    infos: &'a [&'a [u8]],
+    storage_ids: &'a [&'a [u8]],
+    storage_types: &'a [u8],
+    time: u64,
+) -> Opening<'a> {
+    Opening {
+        path: script.path.as_slice(),
+        pool_id: script.pool_id.as_slice(),
+        block_id: script.block_id,
+        stamp: script.stamp,
+        initial_len: script.initial_len,
+        block_size: script.block_size,
+        chunk_size: script.chunk_size,
+        packet_size: script.packet_size,
+        replication: script.replication,
+        replace: script.settings.replace_datanode(),
+        infos,
+        storage_ids,
+        storage_types,
+        token: script.token.as_slice(),
+        client_name: UUID.as_bytes(),
+        time,
+    }
+}
+
+impl Session {
     // Opens the block with what the script says.
     fn open_block(&mut self) -> anyhow::Result<Opened> {
         let heap = self.heap;
-        let opening = &self.opening;
-        let nodes = opening.nodes.as_slice();
+        let script = &self.opening;
+        let nodes = script.nodes.as_slice();
         let infos: Vec<&[u8]> = nodes.iter().map(|row| row.info.as_slice()).collect(heap)?;
         let storages: Vec<&[u8]> = nodes
             .iter()
@@ -21,26 +50,16 @@ impl Replay {
             .iter()
             .map(|row| u8::try_from(row.storage_type).unwrap_or(u8::MAX))
             .collect(heap)?;
+        let opening = opening_of(
+            script,
+            infos.as_slice(),
+            storages.as_slice(),
+            types.as_slice(),
+            self.time,
+        );
         Ok(Writer::open(
             heap,
-            Opening {
-                path: opening.path.as_slice(),
-                pool_id: opening.pool_id.as_slice(),
-                block_id: opening.block_id,
-                stamp: opening.stamp,
-                initial_len: opening.initial_len,
-                block_size: opening.block_size,
-                chunk_size: opening.chunk_size,
-                packet_size: opening.packet_size,
-                replication: opening.replication,
-                replace: opening.settings.replace_datanode(),
-                infos: infos.as_slice(),
-                storage_ids: storages.as_slice(),
-                storage_types: types.as_slice(),
-                token: opening.token.as_slice(),
-                client_name: UUID.as_bytes(),
-                time: self.time,
-            },
+            opening,
             &mut self.link,
             self.buffers.store.as_slice(),
             self.buffers.frame.as_slice(),
