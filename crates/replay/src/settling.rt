@@ -45,30 +45,36 @@ impl Session {
         Ok(())
     }
 
-    // The end of a block: answers are heeded and the pipeline mended, until the block is complete or waits for an answer.
-    fn settle_end(&mut self, page: &Page<'_>) -> anyhow::Result<()> {
+    // Heeds what has come, and mends the pipeline where that broke it.
+    fn heed_and_mend(&mut self, page: &Page<'_>) -> anyhow::Result<Result<(), Refusal>> {
         if let Err(refusal) = self.heed_all() {
-            self.stage = Stage::Over;
-            self.show_events(page)?;
-            return page.refused(refusal);
+            return Ok(Err(refusal));
         }
-        if let Err(refusal) = self.recover(page)? {
-            self.stage = Stage::Over;
-            self.show_events(page)?;
-            return page.refused(refusal);
+        self.recover(page)
+    }
+
+    // Gives the writer up for the record of its block.
+    fn close(&mut self, page: &Page<'_>) -> anyhow::Result<()> {
+        self.stage = Stage::Over;
+        let Some(writer) = self.writer.take() else {
+            return Ok(());
+        };
+        match writer.close() {
+            Ok(block) => page.record(block),
+            Err(refusal) => page.refused(refusal),
+        }
+    }
+
+    // The end of a block: it is complete, or waits for an answer.
+    fn settle_end(&mut self, page: &Page<'_>) -> anyhow::Result<()> {
+        if let Err(refusal) = self.heed_and_mend(page)? {
+            return self.refuse(page, refusal, Stage::Over);
         }
         self.show_events(page)?;
         if !self.complete {
             return page.line("pending");
         }
-        self.stage = Stage::Over;
-        match self.writer.take() {
-            Some(writer) => match writer.close() {
-                Ok(block) => page.record(block),
-                Err(refusal) => page.refused(refusal),
-            },
-            None => Ok(()),
-        }
+        self.close(page)
     }
 
     // A write: answers are heeded, and the writer takes more where they freed slots.

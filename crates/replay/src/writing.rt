@@ -13,8 +13,13 @@ impl Session {
         }
     }
 
-    // A call that was refused: told, and nothing is under way.
-    fn refuse(&mut self, page: &Page<'_>, refusal: Refusal, stage: Stage) -> anyhow::Result<()> {
+    /// A call was refused: that is told, and the run is then at that stage.
+    pub fn refuse(
+        &mut self,
+        page: &Page<'_>,
+        refusal: Refusal,
+        stage: Stage,
+    ) -> anyhow::Result<()> {
         self.stage = stage;
         self.show_events(page)?;
         page.refused(refusal)

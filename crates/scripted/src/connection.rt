@@ -2,7 +2,7 @@
 use crate::event::{Event, Noted};
 use crate::log::Log;
 use crate::plans::{LinkPlans, Reply};
-use crate::words::address_of;
+use crate::words::address_in;
 use chain::link::LinkLost;
 use proto::datanode::Datanode;
 use std::alloc::{AllocError, Global};
@@ -52,7 +52,7 @@ impl Connection {
         octets: &[u8],
     ) -> Result<(), LinkLost> {
         let heap = self.log.heap();
-        let address = address_of(heap, node).map_err(|_| LinkLost)?;
+        let address = address_in(heap, node.info()).map_err(|_| LinkLost)?;
         if self.plans.down.iter().any(|down| *down == address) {
             return Err(LinkLost);
         }

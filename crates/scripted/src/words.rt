@@ -1,6 +1,5 @@
 //! What the words of a line stand for.
 use crate::error::ScriptError;
-use proto::datanode::Datanode;
 use std::alloc::{AllocError, Global};
 use wire::find::find;
 use wire::varint::read_varint;
@@ -36,14 +35,7 @@ pub fn generated(heap: Global, seed: u32, count: usize) -> Result<Vec<u8>, Alloc
     Ok(bytes)
 }
 
-/// A datanode's address: its ip and the port for the transfer of data.
-pub fn address_of(heap: Global, node: &Datanode) -> Result<String, AllocError> {
-    let ip = str::from_utf8(node.ip_addr()).unwrap_or("");
-    let port = node.xfer_port();
-    format!(in heap; "{ip}:{port}")
-}
-
-/// The address in a `DatanodeInfoProto`, which may be out of form.
+/// The address in a `DatanodeInfoProto`, which may be out of form: the ip, and the port for the transfer of data.
 pub fn address_in(heap: Global, info: &[u8]) -> Result<String, AllocError> {
     let id: &[u8] = find(info, 1);
     let ip = str::from_utf8(find(id, 1)).unwrap_or("");
