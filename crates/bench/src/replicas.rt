@@ -30,6 +30,7 @@ pub(crate) fn append_all(replicas: &mut [Vec<u8>], more: &[u8])
 }
 
 // Bytes in a memory of their own, with room for as many as `room`.
+// Stays a function: a clone is promised room for its own bytes alone, and a replica takes all its room at once, so that no put needs memory.
 fn copy_of(heap: Global, bytes: &[u8], room: usize) -> Result<Vec<u8>, AllocError>
     ensures { IfOk result (λ v. v.items ≡ bytes.now) }
 {

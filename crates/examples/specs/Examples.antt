@@ -1,5 +1,5 @@
 -- Worked examples, of the definitions that the contracts of the code cite. Assumes nothing.
-use Rattle.std.specs.Prelude.{◌≡◌, ℕ, ◌+◌, ◌-◌, ◌^◌, true, false, [], ◌∷◌, Ok, Err}
+use Rattle.std.specs.Prelude.{◌≡◌, ℕ, ◌+◌, ◌-◌, ◌^◌, true, false, [], ◌∷◌, length, Ok, Err}
 use Rattle.packet.specs.declared.size.settings.SizeError.TheVariants as error
 use Rattle.packet.specs.Accepted.{settings_of}
 use Rattle.packet.specs.Sizes.{capacity_of, first_capacity_of}
@@ -10,6 +10,14 @@ use Rattle.ack.specs.declared.ack.Verdict.TheVariants as verdict
 use Rattle.ack.specs.Verdicts.{verdict_on}
 use Rattle.replace.specs.declared.datanode.Policy.TheVariants as policy
 use Rattle.replace.specs.Decision.{should_replace}
+use Rattle.chain.specs.Acts.{answer}
+use Rattle.sending.specs.Asking.{heard_in}
+use Rattle.writer.specs.declared.heed.Decision.TheVariants as decision
+use Rattle.writer.specs.declared.refusal.Refusal.TheVariants as refusal
+use Rattle.writer.specs.Heeding.{on_heard}
+use Rattle.writer.specs.Recovering.{left_of, wants}
+use Rattle.writer.specs.Refusals.{number_of}
+use Rattle.writer.specs.Views.{View}
 
 -- a heartbeat: number -1, no data
 abbrev pub heartbeat : Packet
@@ -50,3 +58,7 @@ pub record Examples : Type 0 where
   -- two of three datanodes are left: what the block had when it was opened decides, not what it has now
   pub new_block_goes_on_with_two_of_three : should_replace policy.Default 3 2 0 ≡ false
   pub appended_block_replaces_one_of_three : should_replace policy.Default 3 2 1 ≡ true
+  -- so it is with the writer: an answer that passes with number -2 closes it, with number 9; and the bytes written since the opening count for nothing
+  pub unknown_number_closes : (v : View) → on_heard v (heard_in (answer (0x08 ∷ 3 ∷ []))) ≡ decision.Close refusal.UnknownSeqno
+  pub unknown_number_is_refusal_9 : number_of refusal.UnknownSeqno ≡ 9
+  pub written_bytes_replace_none : (v : View) → v.terms.replace.policy ≡ policy.Default → v.terms.replication ≡ 3 → length (left_of v) ≡ 2 → v.terms.initial_len ≡ 0 → wants v ≡ false

@@ -34,6 +34,7 @@ pub(crate) fn put_lengths(out: &mut [u8], whole: u32, head: u16)
 }
 
 // How many octets the sums take, where a frame can carry them and the data.
+// An Option: a number that may be too large for the frame's lengths, and no length of a buffer that is handed on.
 fn carried_sums(data_len: usize, chunk_size: u32) -> Option<usize>
     ensures { result ≡ (if nat_lt (4 + (4 * chunk_count chunk_size data_len + data_len)) (2 ^ 31) then Some (4 * chunk_count chunk_size data_len) else None) }
 {

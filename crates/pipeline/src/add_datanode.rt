@@ -15,7 +15,7 @@ use proto::fixed::Fixed;
 use replace::choice::{NoChoice, choose};
 use std::fmt;
 
-/// Why no datanode could be added. One list of causes: who asks for a datanode sees no difference between choosing and copying.
+/// Why no datanode could be added. One list, and no errors of choosing and copying within it: the interface names these seven side by side.
 #[derive(Clone, Copy, Debug, PartialEq, Eq)]
 pub enum NoDatanode {
     /// The namenode refused.

@@ -33,6 +33,7 @@ fn read_rows<N: NamenodeProtocol>(namenode: &N, list: &mut NodeTable) -> Option<
 
 /// Reads the list that the namenode holds into `list`, and answers its token: nothing where the list has not one to eight datanodes, or
 /// one of them or the token is not in form.
+// An Option: of whatever is wrong with a list, the interface knows one cause, which the caller names (`NoDatanode::List`).
 pub fn read_offer<N: NamenodeProtocol>(namenode: &N, list: &mut NodeTable) -> Option<Token>
     ensures read { OfferRead (N.NamenodeProtocol.offer namenode.now) list.new.rows.items result }
     ensures capacity { vec_capacity list.new.rows ≡ vec_capacity list.old.rows }

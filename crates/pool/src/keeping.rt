@@ -51,6 +51,7 @@ impl Book {
     }
 
     // The stamp after the entry's, where there is one.
+    // An Option, as that of `checked_add`: that no number follows is the one way to fail, and the caller refuses for it.
     pub(crate) fn next_stamp(&self) -> Option<u64>
         ensures { result ≡ stamp_after (book_of self.now).entry.stamp }
     {

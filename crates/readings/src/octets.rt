@@ -44,6 +44,7 @@ impl Reading {
     }
 
     /// The reading in 52 octets, and none in fewer or more.
+    // An Option: another length than 52 is the one way to fail, since any 52 octets are a reading.
     pub fn from_record(bytes: &[u8]) -> Option<Reading>
         ensures { result ≡ reading_of bytes.now }
     {

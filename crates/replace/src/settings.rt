@@ -23,7 +23,7 @@ enum Key {
 }
 
 // The setting of that name, letter for letter.
-// Stays a match on the name, as the project wants it: each name stands in one place, beside its setting.
+// Stays a function: a `FromStr` would be this match too, with an error type besides, since another name is no error to `set`.
 fn key_of(name: &str) -> Option<Key>
     ensures { result ≡ key_of name.now }
 {

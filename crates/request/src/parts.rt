@@ -23,7 +23,8 @@ struct Construction {
     latest_stamp: u64,
 }
 
-// Stays a macro, as those below: `-> impl Message` gets no proof, and as a named type the parts would have to be written out in full.
+// Stays a macro, as those below: Rattle has no `impl Trait` as a result (it compiles and gets no proof), and as a named type the parts
+// would have to be written out in full.
 macro_rules! construction_parts {
     ($it:expr) => {
         Then(

@@ -126,6 +126,7 @@ impl Merge for Setup {
 }
 
 // The message of a request behind version 28 and that code, a request kind's own constant, as long as its length says.
+// An Option, as that of `Setup::read`, which alone calls it: whatever is wrong with a request, a far end takes it for lost.
 fn message_of(request: &[u8], code: u8) -> Option<&[u8]>
     ensures { seen_part result ≡ message_of code request.now }
 {

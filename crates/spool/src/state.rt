@@ -17,6 +17,7 @@ pub const NODES: u64 = 8;
 pub struct Spool {
     pub(crate) bytes: Vec<u8>,
     pub(crate) held: VecDeque<Pending>,
+    // Beside `bytes`, and no buffer of its own: a confirmed packet's bytes stay where they lie, and a confirmation copies nothing.
     pub(crate) kept: usize,
     pub(crate) limit: usize,
     pub(crate) most: u64,

@@ -57,6 +57,7 @@ impl TryFrom<&[&str]> for Numbers {
 }
 
 // Whether the octets are read as a set up by the numbers of the request.
+// Stays a function: `Setup` and `WriteBlock` are both of `request`, so that neither `From` nor `PartialEq` between them can be written here.
 fn reads(request: &[u8], write: &WriteBlock<'_>) -> bool {
     let expected = Setup {
         stage: u64::from(write.stage),

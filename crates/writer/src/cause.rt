@@ -9,6 +9,7 @@ use wire::field::DecodeError;
 #[derive(Clone, Copy, Debug, PartialEq, Eq)]
 pub enum Cause {
     /// The frame of the packet of that number was lost; a heartbeat's number is -1.
+    // One number, and no variant for a heartbeat: it is the number in the frame's header, where HDFS gives heartbeats -1.
     Put(u64),
     /// The link was lost.
     Link,

@@ -17,7 +17,7 @@ use chain::link::Link;
 use held::table::HeldTable;
 use sending::ask::{AskError, ask};
 
-/// What an answer, or that none came, means. None of the five is an error: the answer was heeded.
+/// What an answer means, or that none came or the link was lost. Stays an enum: none of the five is an error, the call was acted on.
 #[derive(Clone, Copy, Debug, PartialEq, Eq)]
 pub enum Heeded {
     /// No answer has come yet.

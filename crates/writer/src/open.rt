@@ -30,6 +30,7 @@ use std::alloc::{AllocError, Global};
 
 /// What an opening came to: a writer, which is closed where the opening was refused.
 #[derive(Drop)]
+// No `Result<Writer, Refusal>`: the interface wants a closed writer of a refused opening too, so that each later call has its number.
 pub struct Opened {
     pub writer: Writer,
     pub outcome: Result<(), Refusal>,
@@ -37,6 +38,7 @@ pub struct Opened {
 
 impl Terms {
     // The terms of a block that was never opened: the least there are.
+    // No Option of terms in a writer: an open one always has them, and each call would have to take them out of it.
     fn none() -> Terms
         ensures fits { Fits result }
         ensures empty { result.initial_len ≡ 0 }
@@ -176,6 +178,7 @@ impl Writer {
         ensures unmade { is_ok result ≡ false → (link.exit.now ≡ link.entry.now) × (request.new ≡ request.old) × (answer.new ≡ answer.old) }
     {
         let mut tables = Tables::new(heap)?;
+        // Two matches and no `?`: a refused opening is no `Err` here, since the tables go into the closed writer that is answered with it.
         let (terms, token) = match tables.settle(opening, Lens::of(store, frame, request, answer)) {
             Ok(settled) => settled,
             Err(refusal) => return Ok(tables.refused(refusal)),

@@ -53,7 +53,8 @@ fn state_on(lost: Option<u64>, finished: bool) -> State
     }
 }
 
-// The parameters of the steps stay apart: each is lent as `&` or `&mut`, so that a step's signature says which of them it leaves alone.
+// The parameters of the steps stay apart: link, namenode and buffers are lent as `&` or `&mut`, so that a step's signature says which of them it
+// leaves alone; what goes by value is the time, and what the steps before gave.
 impl Writer {
     // Goes on with the chosen pipeline, row by row in the table, the new stamp and its token.
     fn resume(&mut self, lost: Option<u64>, stamp: u64, token: Token, time: u64)

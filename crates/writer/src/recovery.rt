@@ -48,6 +48,7 @@ pub struct SetUp {
 pub struct Replayed {
     pub(crate) stamp: u64,
     pub(crate) replayed: usize,
+    // The packet whose frame was lost. An Option and no `Err`: such a loss ends the replay, and the namenode is told all the same.
     pub(crate) lost: Option<u64>,
 }
 

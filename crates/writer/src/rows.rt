@@ -8,6 +8,7 @@ use namenode::protocol::Offered;
 use pipeline::nodes::NodeTable;
 use pipeline::offer::read_node;
 
+// That the three lists are even is asked for: an opening with uneven ones is one too, and is refused by a number.
 impl<'a> Opening<'a> {
     // The datanode at that place of the three lists.
     fn row(self, i: usize) -> Offered<'a>

@@ -80,6 +80,8 @@ fn terms_for(opening: Opening<'_>, size: PacketSize, forms: Forms, lens: Lens) -
 
 impl Tables {
     // Reads the datanodes into their table, and the token and the names; nothing where one of them or the path is not in form.
+    // An Option: whatever of these is out of form, the interface has one refusal for it, which the caller names (`Refusal::Form`).
+    // That the lists are few and even is asked for: the look before this one refuses others, and `Opening` itself may hold them.
     fn read_forms(&mut self, opening: Opening<'_>) -> Option<Forms>
         requires { (length opening.infos.now ≤ 8) × (length opening.storage_ids.now ≡ length opening.infos.now) × (length opening.storage_types.now ≡ length opening.infos.now) }
         ensures { Formed opening.entry self.new.nodes.rows.items result }

@@ -76,6 +76,7 @@ impl Writer {
         requires terms_in_bounds { frame_room self.old.terms ≤ length frame.old }
         ensures { Writes L.Link.puts (record { view = view_of self.old; store = store.old; frame = frame.old; link = link.old }) bytes.now result.taken result.put_lost (record { view = view_of self.new; store = store.new; frame = frame.new; link = link.new }) }
     {
+        // A place that runs along: how many bytes a turn takes is known after it alone, and their number is what the write answers.
         let mut taken = 0;
         'turns: loop {
             match self.turn(link, store, frame, &bytes[taken..]) {

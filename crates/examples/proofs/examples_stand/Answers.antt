@@ -30,4 +30,7 @@ returns c = record {
   unknown_code_takes_no_position = refl;
   new_block_goes_on_with_two_of_three = refl;
   appended_block_replaces_one_of_three = refl;
+  unknown_number_closes = λ v. refl;
+  unknown_number_is_refusal_9 = refl;
+  written_bytes_replace_none = λ v policy r left initial. rw (policy, r, left, initial) refl;
 }
