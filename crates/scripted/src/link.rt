@@ -6,7 +6,7 @@ ghost use Rattle.spool.specs.Spools.{view_of, seen_in};
 ghost use Rattle.spool.specs.Meaning.{whole_of};
 ghost use Rattle.scripted.specs.Links;
 ghost use Rattle.scripted.specs.Links.{Sets, Puts, Nexts, Confirms, number_in};
-ghost use Rattle.std.proofs.Common.{rules, ap};
+ghost use Rattle.std.proofs.Common.{ap};
 
 use crate::connection::Connection;
 use crate::event::Noted;

@@ -3,7 +3,7 @@ ghost use Rattle.std.specs.Prelude.{◌≡◌, vec_items};
 ghost use Rattle.namenode.specs.Entries.{Entry};
 ghost use Rattle.pool.specs.Houses.{house_of};
 ghost use Rattle.scripted.specs.Offers.{offer_in, Updated};
-ghost use Rattle.std.proofs.Common.{rules, ap};
+ghost use Rattle.std.proofs.Common.{rules};
 
 use crate::event::{Event, Method, Noted};
 use crate::log::Log;
