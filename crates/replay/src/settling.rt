@@ -77,11 +77,11 @@ impl Session {
         self.close(page)
     }
 
-    // A write: answers are heeded, and the writer takes more where they freed slots.
+    // A write: answers are heeded, and the writer goes on where they freed slots. It does so too where all bytes are taken, since the last
+    // packet may be full and wait for a slot.
     fn settle_write(&mut self, page: &Page<'_>) -> anyhow::Result<()> {
         // A refusal closes the writer, which says so at its next call.
-        let _ = self.heed_all();
-        if !self.is_written() {
+        if self.heed_all().is_ok() && self.broken.is_none() {
             self.go_on_writing(page)?;
         }
         if self.stage != Stage::Writing {
