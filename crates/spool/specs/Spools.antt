@@ -83,3 +83,8 @@ packet_of f = record { offset = f.packet.offset; seqno = f.packet.seqno; last = 
 -- a new spool keeps what its buffer has, and has not been set up
 abbrev pub fresh : List ℕ → ℕ → ℕ → View
 fresh bytes room most = record { bytes = bytes; held = []; kept = length bytes; limit = room; most = most; nodes = 0; chunk = 0 }
+
+-- the number of the first packet that waits
+abbrev pub first_number : List Pending → Option ℕ
+first_number [] = None
+first_number (p ∷ ps) = Some p.seqno

@@ -1,6 +1,6 @@
 //! A spool made over a buffer of the caller's, and what can be seen of it.
 ghost use Rattle.std.specs.Prelude.{◌≡◌, [], length, take, min, IfOk, vec_capacity};
-ghost use Rattle.spool.specs.Spools.{view_of, fresh};
+ghost use Rattle.spool.specs.Spools.{view_of, fresh, first_number};
 
 use crate::state::{NODES, PENDING, Spool};
 use std::alloc::{AllocError, Global};
@@ -39,6 +39,13 @@ impl Spool {
         ensures { result ≡ self.now.limit }
     {
         self.limit
+    }
+
+    /// The number of the first packet that waits.
+    pub fn first(&self) -> Option<u64>
+        ensures { result ≡ first_number self.now.held.items }
+    {
+        Some(self.held.front()?.seqno)
     }
 
     /// How many packets wait for their confirmation.

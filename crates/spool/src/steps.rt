@@ -59,8 +59,8 @@ impl Spool {
         let _ = self.bytes.extend_from_slice(packet.data);
     }
 
-    // Confirms the first packet, where one waits.
-    pub(crate) fn confirm(&mut self)
+    /// Confirms the first packet, where one waits. A link that hears its answers elsewhere calls it, as `next` does.
+    pub fn confirm(&mut self)
         ensures { view_of self.new ≡ confirms_first (view_of self.old) }
     {
         if let Some(first) = self.held.pop_front() {
