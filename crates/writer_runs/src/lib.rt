@@ -1,0 +1,13 @@
+//! Runs of the block writer over the chains and namenodes in memory, with a loss, a strange answer or a refusal where a test wants one.
+#![tactic(auto)]
+
+#[cfg(test)]
+mod link;
+#[cfg(test)]
+mod namenodes;
+#[cfg(test)]
+mod run;
+#[cfg(test)]
+mod sample;
+#[cfg(test)]
+mod tests;

@@ -1,0 +1,2 @@
+//! The runs, a topic to a file.
+mod whole;
