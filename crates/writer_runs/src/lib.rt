@@ -10,4 +10,6 @@ mod run;
 #[cfg(test)]
 mod sample;
 #[cfg(test)]
+mod start;
+#[cfg(test)]
 mod tests;

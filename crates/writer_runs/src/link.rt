@@ -6,15 +6,15 @@ use chain::link::{Link, LinkLost};
 use packet::read::read_frame;
 use proto::datanode::Datanode;
 use request::setup::Setup;
-use std::alloc::{AllocError, Global};
+use std::alloc::Global;
 
-/// A frame that was put: its packet, and whether it was taken.
+/// A frame that was put: its packet, by its data's length, and whether it was taken.
 #[derive(Clone, Copy, Debug, PartialEq, Eq)]
 pub struct Put {
     pub offset: u64,
     pub seqno: u64,
-    pub last: bool,
     pub len: usize,
+    pub last: bool,
     pub taken: bool,
 }
 
@@ -25,17 +25,8 @@ pub enum Instead {
     Octets(&'static [u8]),
 }
 
-/// What goes wrong next. Each happens once.
-#[derive(Clone, Copy, Debug, PartialEq, Eq)]
-pub struct Faults {
-    /// So many frames are put before one is lost.
-    pub put: Option<usize>,
-    pub set_up: Option<Instead>,
-    pub next: Option<Instead>,
-    pub transfer: Option<Instead>,
-}
-
-/// A link that goes on to `inner` where there is no fault. It means nothing of its own, so its acts say nothing: a test looks at what came.
+/// A link that goes on to `inner`, but where something is to come instead. It means nothing of its own, so its acts say nothing: a test looks
+/// at what came.
 #[derive(Drop)]
 pub struct TestLink<L> {
     pub inner: L,
@@ -43,33 +34,13 @@ pub struct TestLink<L> {
     pub puts: Vec<Put>,
     /// The last set up that was asked for.
     pub setup: Option<Setup>,
-    pub faults: Faults,
-}
-
-impl Faults {
-    pub fn none() -> Faults {
-        Faults {
-            put: None,
-            set_up: None,
-            next: None,
-            transfer: None,
-        }
-    }
-
-    // Whether the frame that is put now is lost.
-    fn loses_put(&mut self) -> bool {
-        match self.put {
-            None => false,
-            Some(0) => {
-                self.put = None;
-                true
-            }
-            Some(left) => {
-                self.put = Some(left - 1);
-                false
-            }
-        }
-    }
+    /// The ips of the datanodes that set ups and transfers were sent to, in turn.
+    pub asked: Vec<u8>,
+    /// So many frames are put before one is lost.
+    lost_put: Option<usize>,
+    set_up: Option<Instead>,
+    next: Option<Instead>,
+    transfer: Option<Instead>,
 }
 
 // Octets at the front of `answer`, where they fit.
@@ -97,14 +68,44 @@ impl Instead {
 }
 
 impl<L: Link> TestLink<L> {
-    pub fn over(heap: Global, inner: L) -> Result<TestLink<L>, AllocError>
-    {
-        Ok(TestLink {
+    pub fn over(heap: Global, inner: L) -> TestLink<L> {
+        TestLink {
             inner,
             puts: Vec::new(heap),
             setup: None,
-            faults: Faults::none(),
-        })
+            asked: Vec::new(heap),
+            lost_put: None,
+            set_up: None,
+            next: None,
+            transfer: None,
+        }
+    }
+
+    /// One frame is lost, after so many more.
+    pub fn lose_put_after(&mut self, frames: usize) {
+        self.lost_put = Some(frames);
+    }
+
+    /// What the next set up comes to.
+    pub fn on_set_up(&mut self, instead: Instead) {
+        self.set_up = Some(instead);
+    }
+
+    /// What comes when the next answer is asked for.
+    pub fn on_next(&mut self, instead: Instead) {
+        self.next = Some(instead);
+    }
+
+    /// What the next transfer comes to.
+    pub fn on_transfer(&mut self, instead: Instead) {
+        self.transfer = Some(instead);
+    }
+
+    // Whether the frame that is put now is lost.
+    fn loses_put(&mut self) -> bool {
+        let lost = self.lost_put == Some(0);
+        self.lost_put = self.lost_put.and_then(|left| left.checked_sub(1));
+        lost
     }
 
     // Notes a frame.
@@ -113,8 +114,8 @@ impl<L: Link> TestLink<L> {
             let _ = self.puts.push(Put {
                 offset: read.packet.offset,
                 seqno: read.packet.seqno,
-                last: read.packet.last,
                 len: read.packet.data.len(),
+                last: read.packet.last,
                 taken,
             });
         }
@@ -138,14 +139,15 @@ impl<L: Link> Link for TestLink<L> {
         answer: &mut [u8],
     ) -> Result<usize, LinkLost> {
         self.setup = Setup::read(request);
-        match self.faults.set_up.take() {
+        let _ = self.asked.extend_from_slice(node.ip_addr());
+        match self.set_up.take() {
             Some(instead) => instead.place(answer),
             None => self.inner.set_up(node, request, least, answer),
         }
     }
 
     fn put(&mut self, frame: &[u8]) -> Result<(), LinkLost> {
-        let put = if self.faults.loses_put() {
+        let put = if self.loses_put() {
             Err(LinkLost)
         } else {
             self.inner.put(frame)
@@ -155,7 +157,7 @@ impl<L: Link> Link for TestLink<L> {
     }
 
     fn next(&mut self, answer: &mut [u8]) -> Result<Option<usize>, LinkLost> {
-        match self.faults.next.take() {
+        match self.next.take() {
             Some(instead) => Ok(Some(instead.place(answer)?)),
             None => self.inner.next(answer),
         }
@@ -167,7 +169,8 @@ impl<L: Link> Link for TestLink<L> {
         request: &[u8],
         answer: &mut [u8],
     ) -> Result<usize, LinkLost> {
-        match self.faults.transfer.take() {
+        let _ = self.asked.extend_from_slice(node.ip_addr());
+        match self.transfer.take() {
             Some(instead) => instead.place(answer),
             None => self.inner.transfer(node, request, answer),
         }

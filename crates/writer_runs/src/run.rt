@@ -113,6 +113,17 @@ impl<L: Link + Drop> Run<L> {
         )
     }
 
+    /// Heeds answers until one that is no confirmation, or none, and tells what that was.
+    pub fn heed_all(&mut self) -> Result<Heeded, Refusal> {
+        for _ in 0..128 {
+            match self.heed()? {
+                Heeded::Confirmed(_) | Heeded::HeartBeat => {}
+                heeded => return Ok(heeded),
+            }
+        }
+        Ok(Heeded::Nothing)
+    }
+
     pub fn beat(&mut self, time: u64) -> Result<Beat, Refusal> {
         let buffers = &mut self.buffers;
         self.writer.beat(

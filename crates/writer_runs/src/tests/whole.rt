@@ -13,7 +13,13 @@ fn a_block_over_a_spool(rt: HostRuntime) -> Result<(), Fail> {
     let spool = Spool::over(heap, Vec::with_capacity(heap, 64)?, 1)?;
     let (mut run, outcome) = Run::open(heap, opening(1), spool, Buffers::new(heap, 20)?)?;
     assert_eq!(rt; outcome, Ok(()));
-    assert_eq!(rt; run.write(b"abcdef"), Ok(Written { taken: 6, put_lost: false }));
+    assert_eq!(rt;
+        run.write(b"abcdef"),
+        Ok(Written {
+            taken: 6,
+            put_lost: false
+        })
+    );
     assert_eq!(rt; run.heed(), Ok(Heeded::Confirmed(0)));
     assert_eq!(rt; run.heed(), Ok(Heeded::Nothing));
     assert_eq!(rt; run.finish(), Ok(Finished { put_lost: false }));
