@@ -29,8 +29,8 @@ pub struct Run<L> {
     pub buffers: Buffers,
 }
 
-// So many octets, all of them 0x77: what a call writes can be told from what it leaves.
-fn octets(heap: Global, len: usize) -> Result<Vec<u8>, AllocError> {
+/// So many octets, all of them 0x77: what a call writes can be told from what it leaves.
+pub fn octets(heap: Global, len: usize) -> Result<Vec<u8>, AllocError> {
     Ok(vec![in heap; 0x77; len]?)
 }
 

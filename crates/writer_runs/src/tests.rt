@@ -1,5 +1,12 @@
 //! The runs, a topic to a file.
+mod appends;
+mod beats;
 mod closings;
+mod losses;
 mod opening;
+mod recoveries;
+mod replacements;
+mod slots;
 mod states;
+mod stores;
 mod whole;

@@ -1,0 +1,157 @@
+//! Frames and answers that are lost, or that are not what they should be, and the block's end after the recovery.
+use crate::ends::completes;
+use crate::link::Instead;
+use crate::sample::opening;
+use crate::start::{house, on_bench};
+use std::test::Fail;
+use wire::field::{DecodeError, Fault};
+use writer::cause::Cause;
+use writer::finish::Finished;
+use writer::heed::Heeded;
+use writer::recover::Recovered;
+use writer::refusal::Refusal;
+use writer::write::Written;
+
+// The first, second or third frame of a write is lost: the bytes of its packet count as taken, and no more are.
+#[test]
+fn in_a_write(rt: HostRuntime) -> Result<(), Fail> {
+    let heap = rt.alloc();
+    let bytes = b"abcdefghijklmn";
+    for before in [0, 1, 2] {
+        let mut namenode = house(heap)?;
+        let mut run = on_bench(heap, opening(2), b"", 28)?;
+        run.link.lose_put_after(before);
+        let taken = 4 * before + 4;
+        assert_eq!(rt;
+            run.write(bytes),
+            Ok(Written {
+                taken,
+                put_lost: true
+            })
+        );
+        assert_eq!(rt; run.link.inner.pending(), before);
+        assert_eq!(rt; run.write(&bytes[taken..]), Err(Refusal::Broken));
+        let recovered = Recovered {
+            choice: None,
+            stamp: 1002,
+            replayed: before + 1,
+            put_lost: false,
+        };
+        assert_eq!(rt; run.recover(&mut namenode, 200), Ok(recovered));
+        run.write(&bytes[taken..])?;
+        run.finish()?;
+        completes(&rt, run, &namenode, bytes, b"b")?;
+    }
+    Ok(())
+}
+
+// Of the two frames that end a block the first or the second is lost, or both packets are held and the first is lost when they are put again.
+#[test]
+fn in_a_finish(rt: HostRuntime) -> Result<(), Fail> {
+    let heap = rt.alloc();
+    for before in [0, 1] {
+        let mut namenode = house(heap)?;
+        let mut run = on_bench(heap, opening(3), b"", 28)?;
+        run.write(b"ab")?;
+        run.link.lose_put_after(before);
+        assert_eq!(rt; run.finish(), Ok(Finished { put_lost: true }));
+        assert_eq!(rt; run.link.inner.pending(), before);
+        assert_eq!(rt; run.finish(), Err(Refusal::Broken));
+        run.link.lose_put_after(0);
+        let lost = Recovered {
+            choice: None,
+            stamp: 1002,
+            replayed: 0,
+            put_lost: true,
+        };
+        assert_eq!(rt; run.recover(&mut namenode, 200), Ok(lost));
+        let whole = Recovered {
+            choice: None,
+            stamp: 1003,
+            replayed: 2,
+            put_lost: false,
+        };
+        assert_eq!(rt; run.recover(&mut namenode, 200), Ok(whole));
+        assert_eq!(rt; run.finish(), Err(Refusal::Finished));
+        completes(&rt, run, &namenode, b"ab", b"c")?;
+    }
+    Ok(())
+}
+
+// A frame is lost while the held packets are put again: those before it are on the new pipeline, all are still held, and the namenode knows
+// of that pipeline. The first datanode of it has failed then.
+#[test]
+fn in_a_replay(rt: HostRuntime) -> Result<(), Fail> {
+    let heap = rt.alloc();
+    for before in [0, 1, 2] {
+        let mut namenode = house(heap)?;
+        let mut run = on_bench(heap, opening(3), b"", 28)?;
+        run.write(b"abcdefghijklmn")?;
+        run.link.on_next(Instead::Lost);
+        assert_eq!(rt; run.heed(), Ok(Heeded::Broken(Cause::Link)));
+        run.link.lose_put_after(before);
+        let lost = Recovered {
+            choice: None,
+            stamp: 1002,
+            replayed: before,
+            put_lost: true,
+        };
+        assert_eq!(rt; run.recover(&mut namenode, 200), Ok(lost));
+        assert_eq!(rt; run.link.inner.pending(), before);
+        assert_eq!(rt; (namenode.stamp, namenode.size), (1002, 14));
+        assert!(rt; namenode.ips.as_slice() == b"bc".as_slice());
+        assert_eq!(rt; run.heed(), Err(Refusal::Broken));
+        let whole = Recovered {
+            choice: None,
+            stamp: 1003,
+            replayed: 3,
+            put_lost: false,
+        };
+        assert_eq!(rt; run.recover(&mut namenode, 200), Ok(whole));
+        run.finish()?;
+        completes(&rt, run, &namenode, b"abcdefghijklmn", b"c")?;
+    }
+    Ok(())
+}
+
+// What comes in place of an answer, and whom it counts against: the first datanode, unless the replies name another. With nothing and with a
+// lost link the answer's buffer stays.
+#[test]
+fn at_a_heed(rt: HostRuntime) -> Result<(), Fail> {
+    let heap = rt.alloc();
+    let ends = Cause::Decoding(DecodeError {
+        place: 2,
+        fault: Fault::End,
+    });
+    let table = [
+        (Instead::Lost, Some(Cause::Link), b"bc".as_slice()),
+        (Instead::Octets(b"\x08\x00\x10"), Some(ends), b"bc"),
+        (Instead::Octets(b"\x08\x00\x10\x00\x10\x01"), None, b"ac"),
+        (
+            Instead::Octets(b"\x08\x03\x10\x00\x10\x00\x10\x0d"),
+            None,
+            b"ab",
+        ),
+    ];
+    for (instead, cause, ips) in table {
+        let mut namenode = house(heap)?;
+        let mut run = on_bench(heap, opening(3), b"", 28)?;
+        run.write(b"abcdef")?;
+        let before = run.buffers.copy()?;
+        run.link.on_next(instead);
+        let heeded = run.heed()?;
+        match cause {
+            Some(cause) => assert_eq!(rt; heeded, Heeded::Broken(cause)),
+            None => assert!(rt; matches!(heeded, Heeded::Broken(Cause::Replies(_)))),
+        }
+        match instead {
+            Instead::Lost => assert!(rt; run.buffers.same_as(&before)),
+            Instead::Octets(octets) => assert!(rt; run.buffers.answer.starts_with(octets)),
+        }
+        run.recover(&mut namenode, 200)?;
+        run.write(b"gh")?;
+        run.finish()?;
+        completes(&rt, run, &namenode, b"abcdefgh", ips)?;
+    }
+    Ok(())
+}
