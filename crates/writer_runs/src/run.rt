@@ -3,6 +3,7 @@ use chain::link::Link;
 use namenode::protocol::NamenodeProtocol;
 use proto::block::ExtendedBlock;
 use std::alloc::{AllocError, Global};
+use std::mem;
 use writer::beat::Beat;
 use writer::finish::Finished;
 use writer::heed::Heeded;
@@ -53,6 +54,11 @@ impl Buffers {
             request: self.request.clone()?,
             answer: self.answer.clone()?,
         })
+    }
+
+    /// Another store in place of this one, which is given back.
+    pub fn swap_store(&mut self, other: Vec<u8>) -> Vec<u8> {
+        mem::replace(&mut self.store, other)
     }
 
     pub fn same_as(&self, other: &Buffers) -> bool {

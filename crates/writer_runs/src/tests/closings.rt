@@ -109,7 +109,8 @@ fn positions(rt: HostRuntime) -> Result<(), Fail> {
 #[test]
 fn stamps(rt: HostRuntime) -> Result<(), Fail> {
     let heap = rt.alloc();
-    for (stamp, token) in [(u64::MAX, token()?), (1001, Token::none())] {
+    let good = token()?;
+    for (stamp, token) in [(u64::MAX, good), (1001, Token::none())] {
         let house = House::new(heap, stamp, 0, &[], token)?;
         let mut namenode = Watched::over(heap, house);
         let mut run = broken(heap, 2, Instead::Lost)?;

@@ -3,7 +3,6 @@ use crate::link::Instead;
 use crate::run::octets;
 use crate::sample::opening;
 use crate::start::{house, on_bench};
-use std::mem;
 use std::test::Fail;
 use writer::cause::Cause;
 use writer::heed::Heeded;
@@ -18,7 +17,7 @@ fn shorter_and_longer(rt: HostRuntime) -> Result<(), Fail> {
         let mut run = on_bench(heap, opening(2), b"", 28)?;
         run.write(b"abcdefghij")?;
         let other = octets(heap, len)?;
-        let own = mem::replace(&mut run.buffers.store, other);
+        let own = run.buffers.swap_store(other);
         let before = run.buffers.copy()?;
         assert_eq!(rt; run.write(b"klm"), Err(Refusal::Store), "{len}");
         assert_eq!(rt; run.heed(), Err(Refusal::Store), "{len}");
@@ -28,7 +27,7 @@ fn shorter_and_longer(rt: HostRuntime) -> Result<(), Fail> {
         assert!(rt; run.buffers.same_as(&before));
         assert_eq!(rt; run.link.puts.len(), 2);
         assert!(rt; own.starts_with(b"abcdefghij"));
-        run.buffers.store = own;
+        run.buffers.swap_store(own);
         assert_eq!(rt;
             run.write(b"klm"),
             Ok(Written {
@@ -55,11 +54,11 @@ fn recovery(rt: HostRuntime) -> Result<(), Fail> {
     run.link.on_next(Instead::Lost);
     assert_eq!(rt; run.heed(), Ok(Heeded::Broken(Cause::Link)));
     let other = octets(heap, 20)?;
-    let own = mem::replace(&mut run.buffers.store, other);
+    let own = run.buffers.swap_store(other);
     assert_eq!(rt; run.recover(&mut namenode, 200), Err(Refusal::Store));
     assert_eq!(rt; namenode.stamp, 0);
     assert!(rt; run.link.asked.as_slice() == b"a".as_slice());
-    run.buffers.store = own;
+    run.buffers.swap_store(own);
     assert_eq!(rt;
         run.recover(&mut namenode, 200),
         Ok(Recovered {
