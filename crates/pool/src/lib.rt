@@ -3,6 +3,7 @@
 
 pub mod book;
 pub mod choosing;
+pub mod entry;
 pub mod keeping;
 pub mod laws;
 pub mod memory;

@@ -19,7 +19,7 @@ use std::alloc::{AllocError, Global};
 /// A namenode of one block, with what it has to offer.
 #[derive(Drop)]
 pub struct MemoryNamenode<S> {
-    book: Book,
+    pub(crate) book: Book,
     spares: S,
 }
 

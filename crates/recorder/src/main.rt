@@ -1,15 +1,17 @@
-//! The furnace recorder's dry run: readings from standard input become a block, packets and frames, and each frame
-//! is read back and compared; then the block goes through a spool, a chain of one node, and through a bench of several.
+//! The furnace recorder's dry run: readings from standard input become a block, packets and frames, and each frame is read back and compared;
+//! then the block writer writes the block through a spool, a chain of one node, and through a bench of several, one of which may fail.
 #![tactic(auto)]
 
+mod cluster;
 mod keep;
 mod mirror;
 mod options;
 mod packets;
-mod sample;
+mod progress;
+mod record;
 mod send;
-mod store;
 mod take;
+mod write;
 
 use anyhow::anyhow;
 use keep::keep_block;
@@ -31,9 +33,10 @@ fn run(rt: &HostRuntime) -> anyhow::Result<()> {
     let mut block = Vec::new(rt.alloc());
     take_lines(rt, text.as_slice(), options.block, &mut block)?;
     send_block(rt, size, block.as_slice())?;
-    keep_block(rt, size, block.as_slice(), options.spool.as_deref())?;
+    let replace = options.replacement();
+    keep_block(rt, &options, size, replace, block.as_slice())?;
     match options.nodes {
-        Some(nodes) => mirror_block(rt, size, block.as_slice(), nodes),
+        Some(nodes) => mirror_block(rt, &options, size, replace, block.as_slice(), nodes),
         None => Ok(()),
     }
 }

@@ -1,6 +1,12 @@
 //! The options of the command line.
 use anyhow::{bail, ensure};
+use replace::datanode::ReplaceDatanodeOnFailure;
+use replace::settings::Settings;
 use std::env;
+
+const POLICY: &str = "dfs.client.block.write.replace-datanode-on-failure.policy";
+
+const BEST_EFFORT: &str = "dfs.client.block.write.replace-datanode-on-failure.best-effort";
 
 /// The sizes that a block is written with, and the file for the bytes that were kept.
 #[derive(Drop)]
@@ -15,6 +21,14 @@ pub struct Options {
     pub nodes: Option<usize>,
     /// The file's name, where one is asked for: an empty name asks for none.
     pub spool: Option<String>,
+    /// The packet at which a datanode of the bench fails, where one is to fail.
+    pub fail_packet: Option<u64>,
+    /// The position of that datanode in the pipeline.
+    pub fail_node: usize,
+    /// How many datanodes the namenode has to spare.
+    pub spares: usize,
+    /// What is done about a datanode that failed.
+    settings: Settings,
 }
 
 impl Options {
@@ -25,6 +39,10 @@ impl Options {
             block: 134_217_728,
             nodes: Some(3),
             spool: None,
+            fail_packet: None,
+            fail_node: 0,
+            spares: 0,
+            settings: Settings::default(),
         }
     }
 
@@ -37,11 +55,21 @@ impl Options {
                 self.nodes = Some(value.as_str().parse::<usize>()?).filter(|nodes| *nodes > 0)
             }
             "--spool" => self.spool = Some(value).filter(|name| !name.is_empty()),
+            "--fail-packet" => self.fail_packet = Some(value.as_str().parse::<u64>()?),
+            "--fail-node" => self.fail_node = value.as_str().parse::<usize>()?,
+            "--spares" => self.spares = value.as_str().parse::<usize>()?,
+            "--policy" => self.settings.set(POLICY, value.as_str()),
+            "--best-effort" => self.settings.set(BEST_EFFORT, value.as_str()),
             _ => bail!(
-                "the options are --chunk N, --packet N, --block N, --nodes N and --spool FILE"
+                "the options are --chunk N, --packet N, --block N, --nodes N, --spool FILE, --fail-packet N, --fail-node N, --spares N, --policy WORD and --best-effort WORD"
             ),
         }
         Ok(())
+    }
+
+    /// What a writer does about a datanode that failed.
+    pub fn replacement(&self) -> ReplaceDatanodeOnFailure {
+        self.settings.replace_datanode()
     }
 
     /// The options as the command line has them, each a name with a value behind it.

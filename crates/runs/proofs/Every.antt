@@ -26,7 +26,9 @@ use Rattle.runs.specs.Begins.{Begins}
 use Rattle.runs.specs.History.{History, wrote, heard, rebuilt}
 use Rattle.runs.specs.Answered.{set_in}
 use Rattle.runs.specs.Law.{Law}
-use Rattle.runs.specs.Runs.{Point, Lends, Run, own, other, here, writes, heeds, beats, finishes, recovers}
+use Rattle.runs.specs.declared.command.Command.{Command}
+use Rattle.runs.specs.declared.command.Outcome.{Outcome}
+use Rattle.runs.specs.Runs.{Point, Lends, Step, Run, own, other, here, then, writes, heeds, beats, finishes, recovers}
 use Rattle.runs.proofs.Ends.{finished_keeps, beaten_keeps}
 use Rattle.runs.proofs.Goes.{streams_write, streams_beat, streams_end, refused_store_end}
 use Rattle.runs.proofs.Hearing.{heard_keeps, listens_heed}
@@ -193,13 +195,19 @@ module _ {C N : Type 0} (sets : C → Datanode → List ℕ → ℕ → Option (
         (λ holds. finished_keeps seen puts putting q.history (finish_refusal v l) p u r (streams_end v l) (fit_of q.writer (length given) holds.store_len) holds d)
         (λ other. unfinished p refl refl (finish_refusal v l) (refused_store_end v l (λ is. other (is ∙ sym i.holds.store_len))) r u d)
 
-  pub every : (o : Opening) (link : C) (p : Point C N) → Begins sets seen entry o link p → (q : Point C N) → Run sets puts nexts transfers lists stamps updates seen p q → Law seen entry q
-  every o link p b q run = let i = along q run in lawful seen entry q i.holds i.entered
-    where
-      along : (q : Point C N) → Run sets puts nexts transfers lists stamps updates seen p q → Invariant q
-      along _ here = let i = opened sets seen entry setting o link p b in record { holds = i.0; entered = i.1 }
-      along _ (writes {q = q} bytes given given' frame frame' request answer store' r w c run lends d) = writes_step q (along q run) bytes given given' frame frame' request answer store' r w c lends d
-      along _ (heeds {q = q} given frame request answer answer' store' r w c run lends d) = heeds_step q (along q run) given frame request answer answer' store' r w c lends d
-      along _ (beats {q = q} time given frame frame' request answer store' r w c run lends d) = beats_step q (along q run) time given frame frame' request answer store' r w c lends d
-      along _ (finishes {q = q} given frame frame' request answer store' r w c run lends d) = finishes_step q (along q run) given frame frame' request answer store' r w c lends d
-      along _ (recovers {q = q} time given frame frame' request request' answer answer' store' r w c n run lends d) = recovers_step q (along q run) time given frame frame' request request' answer answer' store' r w c n lends d
+  stepped : (a : Command) (p : Point C N) (o : Outcome) (q : Point C N) → Invariant p → Step sets puts nexts transfers lists stamps updates seen a p o q → Invariant q
+  stepped _ p _ _ i (writes bytes given given' frame frame' request answer store' r w c lends d) = writes_step p i bytes.now given given' frame frame' request answer store' r w c lends d
+  stepped _ p _ _ i (heeds given frame request answer answer' store' r w c lends d) = heeds_step p i given frame request answer answer' store' r w c lends d
+  stepped _ p _ _ i (beats time given frame frame' request answer store' r w c lends d) = beats_step p i time given frame frame' request answer store' r w c lends d
+  stepped _ p _ _ i (finishes given frame frame' request answer store' r w c lends d) = finishes_step p i given frame frame' request answer store' r w c lends d
+  stepped _ p _ _ i (recovers time given frame frame' request request' answer answer' store' r w c n lends d) = recovers_step p i time given frame frame' request request' answer answer' store' r w c n lends d
+
+  along : (cs : List Command) (p : Point C N) (os : List Outcome) (q : Point C N) → Invariant p → Run sets puts nexts transfers lists stamps updates seen cs p os q → Invariant q
+  along _ p _ _ i here = i
+  along _ p _ r i (then {c = c} {cs = cs} {o = o} {os = os} q step run) = along cs q os r (stepped c p o q i step) run
+
+  pub every : (o : Opening) (link : C) (p : Point C N) → Begins sets seen entry o link p → (cs : List Command) (os : List Outcome) (q : Point C N) → Run sets puts nexts transfers lists stamps updates seen cs p os q → Law seen entry q
+  every o link p b cs os q run =
+      let began = opened sets seen entry setting o link p b in
+      let i = along cs p os q (record { holds = began.0; entered = began.1 }) run in
+      lawful seen entry q i.holds i.entered

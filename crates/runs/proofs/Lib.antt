@@ -15,3 +15,4 @@ pub mod Every
 pub mod Replays
 pub mod Reopened
 pub mod Recovers
+pub mod Clients

@@ -3,3 +3,4 @@ pub mod Answered
 pub mod Runs
 pub mod Begins
 pub mod Law
+pub mod Made

@@ -1,5 +1,6 @@
 -- Runs: any calls on an open writer, in any order, each on what the one before left. A step is nothing but the contract of its call. Assumes nothing.
-use Rattle.std.specs.Prelude.{ℕ, Bool, List, length, Option, Result, ◌≢◌}
+use Rattle.std.specs.Borrow.{Bor}
+use Rattle.std.specs.Prelude.{ℕ, Bool, List, [], ◌∷◌, length, Option, Result, ◌≢◌}
 use Rattle.proto.specs.declared.datanode.Datanode.{Datanode}
 use Rattle.chain.specs.Acts.{Came}
 use Rattle.chain.specs.Meaning.{Seen}
@@ -19,6 +20,10 @@ use Rattle.writer.specs.Heeding.{Heeds}
 use Rattle.writer.specs.Recovering.{Recovers}
 use Rattle.writer.specs.Views.{view_of}
 use Rattle.writer.specs.Writing.{Wrote}
+use Rattle.runs.specs.declared.command.Command.{Command}
+use Rattle.runs.specs.declared.command.Command.TheVariants as command
+use Rattle.runs.specs.declared.command.Outcome.{Outcome}
+use Rattle.runs.specs.declared.command.Outcome.TheVariants as outcome
 use Rattle.runs.specs.History.{History, wrote, heard, rebuilt}
 use Rattle.runs.specs.Answered.{set_in}
 
@@ -37,26 +42,30 @@ pub data Lends : List ℕ → List ℕ → List ℕ → List ℕ → Type 0 wher
 
 module _ {C N : Type 0} (sets : C → Datanode → List ℕ → ℕ → Option (List ℕ) → C → Type 0) (puts : C → List ℕ → Bool → C → Type 0) (nexts : C → Came → C → Type 0) (transfers : C → Datanode → List ℕ → Option (List ℕ) → C → Type 0)
     (lists : N → Ask → Option Offer → N → Type 0) (stamps : N → ℕ → Option (ℕ × List ℕ) → N → Type 0) (updates : N → Entry → Bool → N → Type 0) (seen : C → Seen) where
-  -- from one point to another by any list of calls, with any buffers at each
-  pub data Run : Point C N → Point C N → Type 0 where
-    here : {p : Point C N} → Run p p
-    writes : {p q : Point C N} (bytes given given' frame frame' request answer store' : List ℕ) (r : Result Written Refusal) (w : Writer) (c : C)
-        → Run p q → Lends q.store store' given given'
-        → Wrote puts (refusal_for (view_of q.writer) call.Write (lens_of given frame request answer)) (record { view = view_of q.writer; store = given; frame = frame; link = q.link }) bytes r (record { view = view_of w; store = given'; frame = frame'; link = c })
-        → Run p (record { history = wrote q.history bytes r; writer = w; store = store'; link = c; namenode = q.namenode })
-    heeds : {p q : Point C N} (given frame request answer answer' store' : List ℕ) (r : Result Heeded Refusal) (w : Writer) (c : C)
-        → Run p q → Lends q.store store' given given
+  -- a call, from one point to the next, with any buffers
+  pub data Step : Command → Point C N → Outcome → Point C N → Type 0 where
+    writes : {q : Point C N} (bytes : Bor (List ℕ)) (given given' frame frame' request answer store' : List ℕ) (r : Result Written Refusal) (w : Writer) (c : C)
+        → Lends q.store store' given given'
+        → Wrote puts (refusal_for (view_of q.writer) call.Write (lens_of given frame request answer)) (record { view = view_of q.writer; store = given; frame = frame; link = q.link }) bytes.now r (record { view = view_of w; store = given'; frame = frame'; link = c })
+        → Step (command.Write bytes) q (outcome.Wrote r) (record { history = wrote q.history bytes.now r; writer = w; store = store'; link = c; namenode = q.namenode })
+    heeds : {q : Point C N} (given frame request answer answer' store' : List ℕ) (r : Result Heeded Refusal) (w : Writer) (c : C)
+        → Lends q.store store' given given
         → Heeds nexts (refusal_for (view_of q.writer) call.Heed (lens_of given frame request answer)) (view_of q.writer) q.link answer r (view_of w) c answer'
-        → Run p (record { history = heard q.history (seen q.link).pending (seen c).pending r; writer = w; store = store'; link = c; namenode = q.namenode })
-    beats : {p q : Point C N} (time : ℕ) (given frame frame' request answer store' : List ℕ) (r : Result Beat Refusal) (w : Writer) (c : C)
-        → Run p q → Lends q.store store' given given
+        → Step command.Heed q (outcome.Heard r) (record { history = heard q.history (seen q.link).pending (seen c).pending r; writer = w; store = store'; link = c; namenode = q.namenode })
+    beats : {q : Point C N} (time : ℕ) (given frame frame' request answer store' : List ℕ) (r : Result Beat Refusal) (w : Writer) (c : C)
+        → Lends q.store store' given given
         → Beats puts (refusal_for (view_of q.writer) call.Beat (lens_of given frame request answer)) (record { view = view_of q.writer; store = given; frame = frame; link = q.link }) time r (record { view = view_of w; store = given; frame = frame'; link = c })
-        → Run p (record { history = q.history; writer = w; store = store'; link = c; namenode = q.namenode })
-    finishes : {p q : Point C N} (given frame frame' request answer store' : List ℕ) (r : Result Finished Refusal) (w : Writer) (c : C)
-        → Run p q → Lends q.store store' given given
+        → Step (command.Beat time) q (outcome.Beaten r) (record { history = q.history; writer = w; store = store'; link = c; namenode = q.namenode })
+    finishes : {q : Point C N} (given frame frame' request answer store' : List ℕ) (r : Result Finished Refusal) (w : Writer) (c : C)
+        → Lends q.store store' given given
         → Finishes puts (finish_refusal (view_of q.writer) (lens_of given frame request answer)) (record { view = view_of q.writer; store = given; frame = frame; link = q.link }) r (record { view = view_of w; store = given; frame = frame'; link = c })
-        → Run p (record { history = q.history; writer = w; store = store'; link = c; namenode = q.namenode })
-    recovers : {p q : Point C N} (time : ℕ) (given frame frame' request request' answer answer' store' : List ℕ) (r : Result Recovered Refusal) (w : Writer) (c : C) (n : N)
-        → Run p q → Lends q.store store' given given
+        → Step command.Finish q (outcome.Ended r) (record { history = q.history; writer = w; store = store'; link = c; namenode = q.namenode })
+    recovers : {q : Point C N} (time : ℕ) (given frame frame' request request' answer answer' store' : List ℕ) (r : Result Recovered Refusal) (w : Writer) (c : C) (n : N)
+        → Lends q.store store' given given
         → (d : Recovers sets puts transfers lists stamps updates (refusal_for (view_of q.writer) call.Recover (lens_of given frame request answer)) (view_of q.writer) given time (record { link = q.link; namenode = q.namenode; frame = frame; request = request; answer = answer }) r (view_of w) (record { link = c; namenode = n; frame = frame'; request = request'; answer = answer' }))
-        → Run p (record { history = rebuilt q.history (set_in sets puts transfers lists stamps updates (view_of q.writer) given time r (view_of w) (record { link = c; namenode = n; frame = frame'; request = request'; answer = answer' }) (refusal_for (view_of q.writer) call.Recover (lens_of given frame request answer)) (record { link = q.link; namenode = q.namenode; frame = frame; request = request; answer = answer }) d); writer = w; store = store'; link = c; namenode = n })
+        → Step (command.Recover time) q (outcome.Recovered r) (record { history = rebuilt q.history (set_in sets puts transfers lists stamps updates (view_of q.writer) given time r (view_of w) (record { link = c; namenode = n; frame = frame'; request = request'; answer = answer' }) (refusal_for (view_of q.writer) call.Recover (lens_of given frame request answer)) (record { link = q.link; namenode = q.namenode; frame = frame; request = request; answer = answer }) d); writer = w; store = store'; link = c; namenode = n })
+
+  -- any list of calls, and what each answered
+  pub data Run : List Command → Point C N → List Outcome → Point C N → Type 0 where
+    here : {p : Point C N} → Run [] p [] p
+    then : {c : Command} {cs : List Command} {o : Outcome} {os : List Outcome} {p r : Point C N} (q : Point C N) → Step c p o q → Run cs q os r → Run (c ∷ cs) p (o ∷ os) r

@@ -1,0 +1,130 @@
+//! The pipeline with its failing datanode as a link, and as a chain.
+ghost use Rattle.std.specs.Prelude.{◌≡◌, Some, None};
+ghost use Rattle.ack.specs.Verdicts.{passes};
+ghost use Rattle.chain.specs.Acts.{Answered};
+ghost use Rattle.failing.specs.Fails.{Nexts, Refuses};
+ghost use Rattle.std.proofs.Common.{rules};
+
+use crate::node::{FailingNode, Failure};
+use ack::ack::{Verdict, judge};
+use ack::write::write_ack;
+use chain::link::{Link, LinkLost};
+use chain::meaning::Chain;
+use packet::read::read_frame;
+use proto::datanode::Datanode;
+
+/// So many octets hold an answer with eight replies.
+const ANSWER_LEN: usize = 32;
+
+/// A pipeline has so many datanodes at most.
+const NODES: usize = 8;
+
+/// `SUCCESS` and `ERROR` of datatransfer.proto.
+const SUCCESS: u8 = 0;
+
+const ERROR: u8 = 1;
+
+// Whether a frame is that of the packet of this number.
+fn has_number(frame: &[u8], seqno: u64) -> bool {
+    read_frame(frame).is_some_and(|read| read.packet.seqno == seqno)
+}
+
+// An answer in which one node says that it failed, and the others that they have the packet. It is looked at before it is used, so that none
+// is which passes.
+fn make_refusal(
+    out: &mut [u8; ANSWER_LEN],
+    seqno: u64,
+    position: usize,
+    nodes: usize,
+) -> Option<&[u8]>
+    ensures { elim result [ Some x ↦ passes x.now ≡ None | None ↦ Unit {0} ] }
+{
+    let mut replies = [SUCCESS; NODES];
+    *replies.get_mut(position)? = ERROR;
+    let len = write_ack(out, seqno, replies.get(0..nodes)?)?;
+    let made = out.get(0..len)?;
+    match judge(made) {
+        Ok(Verdict::Failed(_)) => Some(made),
+        _ => None,
+    }
+}
+
+// The answer to the packet whose turn it is.
+fn refuse(
+    answer: &mut [u8],
+    seqno: u64,
+    position: usize,
+    nodes: usize,
+) -> Result<Option<usize>, LinkLost>
+    ensures { Answered Refuses answer.old answer.new result }
+{
+    let mut out = [0u8; ANSWER_LEN];
+    let made = make_refusal(&mut out, seqno, position, nodes).ok_or(LinkLost)?;
+    let len = made.len();
+    if answer.len() < len {
+        return Err(LinkLost);
+    }
+    answer[0..len].copy_from_slice(made);
+    Ok(Some(len))
+}
+
+impl<C: Link> Link for FailingNode<C> {
+    ghost sets = { λ a node request least came b. C.Link.sets a.inner node request least came b.inner };
+
+    ghost puts = { λ a frame taken b. C.Link.puts a.inner frame taken b.inner };
+
+    ghost nexts = { λ a came b. Nexts C.Link.nexts a came b };
+
+    ghost transfers = { λ a node request came b. C.Link.transfers a.inner node request came b.inner };
+
+    fn set_up(
+        &mut self,
+        node: &Datanode,
+        request: &[u8],
+        least: u64,
+        answer: &mut [u8],
+    ) -> Result<usize, LinkLost> {
+        self.inner.set_up(node, request, least, answer)
+    }
+
+    fn put(&mut self, frame: &[u8]) -> Result<(), LinkLost> {
+        self.inner.put(frame)?;
+        if self.failure == Failure::Ahead && has_number(frame, self.packet) {
+            self.failure = Failure::Due;
+        }
+        Ok(())
+    }
+
+    fn next(&mut self, answer: &mut [u8]) -> Result<Option<usize>, LinkLost> {
+        if self.failure == Failure::Due && self.answered >= self.packet {
+            self.failure = Failure::Past;
+            return refuse(answer, self.packet, self.position, self.nodes);
+        }
+        let came = self.inner.next(answer)?;
+        if came.is_some() {
+            self.answered = self.answered.saturating_add(1);
+        }
+        Ok(came)
+    }
+
+    fn transfer(
+        &mut self,
+        node: &Datanode,
+        request: &[u8],
+        answer: &mut [u8],
+    ) -> Result<usize, LinkLost> {
+        self.inner.transfer(node, request, answer)
+    }
+}
+
+impl<C: Chain> Chain for FailingNode<C> {
+    ghost seen = { λ a. C.Chain.seen a.inner };
+
+    ghost setting = { Prim.search rules };
+
+    ghost putting = { Prim.search rules };
+
+    ghost answering = { Prim.search rules };
+
+    ghost transferring = { Prim.search rules };
+}

@@ -1,0 +1,170 @@
+//! How far a block is written, and what each call of the writer came to.
+use ack::tally::FailedNodes;
+use anyhow::bail;
+use runs::command::{Command, Outcome};
+use writer::beat::Beat;
+use writer::cause::Cause;
+use writer::heed::Heeded;
+use writer::recover::Recovered;
+use writer::refusal::Refusal;
+
+/// So many turns without an answer are too many.
+const PATIENCE: usize = 16;
+
+/// What is left to be done.
+#[derive(Clone, Copy)]
+pub struct Progress<'a> {
+    rest: &'a [u8],
+    broken: bool,
+    finished: bool,
+    complete: bool,
+    confirmed: u64,
+    beats: u64,
+    quiet: usize,
+    /// A turn takes a second.
+    time: u64,
+}
+
+impl<'a> Progress<'a> {
+    pub fn new(block: &'a [u8]) -> Progress<'a> {
+        Progress {
+            rest: block,
+            broken: false,
+            finished: false,
+            complete: false,
+            confirmed: 0,
+            beats: 0,
+            quiet: 0,
+            time: 0,
+        }
+    }
+
+    pub fn is_complete(&self) -> bool {
+        self.complete
+    }
+
+    /// The calls of the next turn.
+    pub fn commands(&mut self) -> [Command<'a>; 3] {
+        self.time = self.time.saturating_add(1);
+        if self.broken {
+            [Command::Recover(self.time), Command::Heed, Command::Heed]
+        } else if !self.rest.is_empty() {
+            [
+                Command::Write(self.rest),
+                Command::Beat(self.time),
+                Command::Heed,
+            ]
+        } else if !self.finished {
+            [Command::Finish, Command::Heed, Command::Heed]
+        } else {
+            [Command::Heed, Command::Heed, Command::Heed]
+        }
+    }
+
+    // Counts an answer, or that none came.
+    fn heed(&mut self, rt: &HostRuntime, heeded: Heeded) -> anyhow::Result<()> {
+        match heeded {
+            Heeded::Nothing => {
+                self.quiet = self.quiet.saturating_add(1);
+                if self.quiet > PATIENCE {
+                    bail!("no answer comes");
+                }
+            }
+            Heeded::HeartBeat => self.quiet = 0,
+            Heeded::Confirmed(_) => {
+                self.quiet = 0;
+                self.confirmed = self.confirmed.saturating_add(1);
+            }
+            Heeded::Complete(_) => {
+                self.confirmed = self.confirmed.saturating_add(1);
+                self.complete = true;
+            }
+            Heeded::Broken(cause) => {
+                self.broken = true;
+                show_break(rt, cause, self.confirmed)?;
+            }
+        }
+        Ok(())
+    }
+
+    // What a recovery came to. The pipeline is broken again where a frame was lost.
+    fn recovered(&mut self, rt: &HostRuntime, recovered: Recovered) -> anyhow::Result<()> {
+        self.broken = recovered.put_lost;
+        let Recovered {
+            choice,
+            stamp,
+            replayed,
+            put_lost,
+        } = recovered;
+        match choice {
+            Some((new, source)) => println!(rt;
+                "  new datanode {new} of the namenode's list, copied from {source}"
+            )?,
+            None => println!(rt; "  no new datanode")?,
+        }
+        println!(rt; "  stamp {stamp}, packets put again {replayed}, a frame lost {put_lost}")?;
+        Ok(())
+    }
+
+    /// Takes in what a call came to. A call of the same turn that a break or the block's end came before is refused, and no error; nor is an
+    /// end for which there are no places yet.
+    pub fn take(&mut self, rt: &HostRuntime, outcome: Outcome) -> anyhow::Result<()> {
+        match outcome {
+            Outcome::Wrote(Ok(written)) => {
+                self.rest = self.rest.get(written.taken..).unwrap_or(&[]);
+                self.broken = written.put_lost;
+            }
+            Outcome::Beaten(Ok(beat)) => {
+                self.beats = self.beats.saturating_add(u64::from(beat == Beat::Put));
+                self.broken = beat == Beat::Lost;
+            }
+            Outcome::Heard(Ok(heeded)) => self.heed(rt, heeded)?,
+            Outcome::Ended(Ok(ended)) => {
+                self.finished = true;
+                self.broken = ended.put_lost;
+            }
+            Outcome::Recovered(Ok(recovered)) => self.recovered(rt, recovered)?,
+            Outcome::Wrote(Err(refusal))
+            | Outcome::Beaten(Err(refusal))
+            | Outcome::Heard(Err(refusal))
+            | Outcome::Ended(Err(refusal))
+            | Outcome::Recovered(Err(refusal)) => self.refused(refusal)?,
+        }
+        Ok(())
+    }
+
+    fn refused(&self, refusal: Refusal) -> anyhow::Result<()> {
+        match refusal {
+            Refusal::Broken if self.broken => Ok(()),
+            Refusal::Complete if self.complete => Ok(()),
+            Refusal::Places => Ok(()),
+            _ => {
+                let number = u8::from(refusal);
+                bail!("the writer refuses with number {number}");
+            }
+        }
+    }
+
+    /// Tells how many packets were confirmed, and how many heartbeats put.
+    pub fn show(&self, rt: &HostRuntime) -> anyhow::Result<()> {
+        let Progress {
+            confirmed,
+            beats,
+            ..
+        } = *self;
+        println!(rt; "  packets confirmed {confirmed}, heartbeats put {beats}")?;
+        Ok(())
+    }
+}
+
+// Tells which datanodes failed, by their positions, and when.
+fn show_break(rt: &HostRuntime, cause: Cause, confirmed: u64) -> anyhow::Result<()> {
+    let FailedNodes { positions, .. } = cause.failed_nodes();
+    println!(rt;
+        "  broken after {confirmed} packets were confirmed; datanodes that failed, by position:"
+    )?;
+    for (position, _) in positions.iter().enumerate().filter(|(_, failed)| **failed) {
+        println!(rt; "    {position}")?;
+    }
+    Ok(())
+}

@@ -1,0 +1,28 @@
+//! What a client asks of a writer, and what came of it.
+
+use writer::beat::Beat;
+use writer::finish::Finished;
+use writer::heed::Heeded;
+use writer::recover::Recovered;
+use writer::refusal::Refusal;
+use writer::write::Written;
+
+/// A call of a writer, with what it is given beside the buffers. A time is in seconds.
+#[derive(Clone, Copy)]
+pub enum Command<'a> {
+    Write(&'a [u8]),
+    Heed,
+    Beat(u64),
+    Finish,
+    Recover(u64),
+}
+
+/// What a call answered.
+#[derive(Clone, Copy, Debug, PartialEq, Eq)]
+pub enum Outcome {
+    Wrote(Result<Written, Refusal>),
+    Heard(Result<Heeded, Refusal>),
+    Beaten(Result<Beat, Refusal>),
+    Ended(Result<Finished, Refusal>),
+    Recovered(Result<Recovered, Refusal>),
+}
