@@ -6,7 +6,7 @@ mod ends;
 #[cfg(test)]
 mod link;
 #[cfg(test)]
-mod namenodes;
+mod namenode;
 #[cfg(test)]
 mod run;
 #[cfg(test)]

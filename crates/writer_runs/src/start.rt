@@ -1,6 +1,5 @@
 //! Runs that are opened, and what they come to.
 use crate::link::TestLink;
-use crate::namenodes::watched::Watched;
 use crate::run::{Buffers, Run};
 use crate::sample::token;
 use bench::state::Bench;
@@ -24,7 +23,7 @@ pub fn on_bench(
     Ok(run)
 }
 
-/// A house that has the block at stamp 1001, and notes its updates.
-pub fn house(heap: Global) -> Result<Watched<House>, Fail> {
-    Ok(Watched::over(heap, House::new(heap, 1001, 0, &[], token()?)?))
+/// A house that has the block at stamp 1001, and is not told yet of any datanode.
+pub fn house(heap: Global) -> Result<House, Fail> {
+    Ok(House::new(heap, 1001, 0, &[], token()?)?)
 }

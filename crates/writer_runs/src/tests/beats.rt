@@ -1,4 +1,5 @@
 //! When a heartbeat is put: thirty seconds after the last opening, recovery or heartbeat, by a clock that may go back.
+use crate::ends::is_on;
 use crate::link::{Instead, Put, TestLink};
 use crate::run::Run;
 use crate::sample::opening;
@@ -124,7 +125,7 @@ fn lost(rt: HostRuntime) -> Result<(), Fail> {
             put_lost: false
         })
     );
-    assert!(rt; namenode.ips.as_slice() == b"b".as_slice());
+    assert!(rt; is_on(namenode.entry(), b"b"));
     beats(&rt, &mut run, &[(199, Beat::Idle), (200, Beat::Put)]);
     run.write(b"abcd")?;
     run.finish()?;

@@ -3,12 +3,12 @@
 ghost use Rattle.std.specs.Prelude.{◌≤◌};
 
 use crate::link::{Instead, TestLink};
-use crate::namenodes::watched::Watched;
+use crate::namenode::TestNamenode;
 use crate::run::Run;
-use crate::sample::{opening, token};
+use crate::sample::{INFOS, TOKEN, opening, token};
 use crate::start::{house, on_bench};
 use bench::state::Bench;
-use namenode::protocol::NamenodeProtocol;
+use namenode::protocol::{NamenodeProtocol, Offered};
 use pipeline::reply::ReplyError;
 use pool::memory::House;
 use proto::token::Token;
@@ -100,7 +100,7 @@ fn positions(rt: HostRuntime) -> Result<(), Fail> {
         recovery(&rt, &mut run, &mut namenode, number)?;
         assert!(rt; run.buffers.same_as(&before));
         assert!(rt; run.link.asked.as_slice() == b"a".as_slice());
-        assert_eq!(rt; namenode.stamp, 0);
+        assert!(rt; namenode.entry().nodes.is_empty());
     }
     Ok(())
 }
@@ -111,14 +111,13 @@ fn stamps(rt: HostRuntime) -> Result<(), Fail> {
     let heap = rt.alloc();
     let good = token()?;
     for (stamp, token) in [(u64::MAX, good), (1001, Token::none())] {
-        let house = House::new(heap, stamp, 0, &[], token)?;
-        let mut namenode = Watched::over(heap, house);
+        let mut namenode = House::new(heap, stamp, 0, &[], token)?;
         let mut run = broken(heap, 2, Instead::Lost)?;
         let before = run.buffers.copy()?;
         assert_eq!(rt; recovery(&rt, &mut run, &mut namenode, 14)?, Refusal::Stamp);
         assert!(rt; run.buffers.same_as(&before));
         assert!(rt; run.link.asked.as_slice() == b"a".as_slice());
-        assert_eq!(rt; namenode.stamp, 0);
+        assert!(rt; namenode.entry().nodes.is_empty());
     }
     Ok(())
 }
@@ -145,7 +144,7 @@ fn set_ups(rt: HostRuntime) -> Result<(), Fail> {
         assert!(rt; run.buffers.request.starts_with(&[0, 28, 80]));
         assert!(rt; run.link.asked.as_slice() == b"ab".as_slice());
         assert_eq!(rt; run.link.puts.len(), puts);
-        assert_eq!(rt; namenode.stamp, 0);
+        assert!(rt; namenode.entry().nodes.is_empty());
     }
     Ok(())
 }
@@ -154,8 +153,12 @@ fn set_ups(rt: HostRuntime) -> Result<(), Fail> {
 #[test]
 fn update(rt: HostRuntime) -> Result<(), Fail> {
     let heap = rt.alloc();
-    let mut namenode = house(heap)?;
-    namenode.refuses_updates = true;
+    let row = Offered {
+        info: INFOS[1],
+        storage_id: b"DS-1",
+        storage_type: 1,
+    };
+    let mut namenode = TestNamenode { row, token: TOKEN };
     let mut run = broken(heap, 2, Instead::Lost)?;
     let puts = run.link.puts.len();
     assert_eq!(rt;

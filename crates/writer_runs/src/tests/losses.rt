@@ -1,5 +1,5 @@
 //! Frames and answers that are lost, or that are not what they should be, and the block's end after the recovery.
-use crate::ends::completes;
+use crate::ends::{completes, is_on};
 use crate::link::Instead;
 use crate::sample::opening;
 use crate::start::{house, on_bench};
@@ -98,8 +98,8 @@ fn in_a_replay(rt: HostRuntime) -> Result<(), Fail> {
         };
         assert_eq!(rt; run.recover(&mut namenode, 200), Ok(lost));
         assert_eq!(rt; run.link.inner.pending(), before);
-        assert_eq!(rt; (namenode.stamp, namenode.size), (1002, 14));
-        assert!(rt; namenode.ips.as_slice() == b"bc".as_slice());
+        assert_eq!(rt; (namenode.entry().stamp, namenode.entry().size), (1002, 14));
+        assert!(rt; is_on(namenode.entry(), b"bc"));
         assert_eq!(rt; run.heed(), Err(Refusal::Broken));
         let whole = Recovered {
             choice: None,

@@ -103,7 +103,7 @@ fn each_state(rt: HostRuntime) -> Result<(), Fail> {
         assert_eq!(rt; run.link.setup, Some(setup), "case {i}");
         assert!(rt; run.link.asked.as_slice() == b"ab".as_slice(), "case {i}");
         assert_eq!(rt; run.link.puts.len(), held, "case {i}");
-        assert_eq!(rt; namenode.size, len, "case {i}");
+        assert_eq!(rt; namenode.entry().size, len, "case {i}");
         let mut all = bytes.to_vec(heap)?;
         if at == At::Open {
             run.write(b"vwxyz")?;

@@ -1,8 +1,7 @@
 //! Datanodes that failed, and what comes in their places: none, or one of the namenode's list.
 use crate::ends::completes;
 use crate::link::{Instead, TestLink};
-use crate::namenodes::one_row::OneRow;
-use crate::namenodes::watched::Watched;
+use crate::namenode::TestNamenode;
 use crate::run::Run;
 use crate::sample::{INFOS, TOKEN, always, node, opening, token};
 use crate::start::{house, on_bench};
@@ -21,10 +20,9 @@ use writer::recover::Recovered;
 use writer::refusal::Refusal;
 
 // A namenode that has b and d to spare.
-fn pool(heap: Global, token: Token) -> Result<Watched<Pool>, Fail> {
+fn pool(heap: Global, token: Token) -> Result<Pool, Fail> {
     let spares = [node(INFOS[1])?, node(INFOS[3])?];
-    let pool = Pool::new(heap, 1001, 0, &[], token, &spares)?;
-    Ok(Watched::over(heap, pool))
+    Ok(Pool::new(heap, 1001, 0, &[], token, &spares)?)
 }
 
 // A run on a, b and c with two packets held and two bytes more, of which b has failed.
@@ -89,7 +87,7 @@ fn from_the_pool(rt: HostRuntime) -> Result<(), Fail> {
     };
     assert_eq!(rt; run.recover(&mut namenode, 200), Ok(recovered));
     assert!(rt; run.link.asked.as_slice() == b"aca".as_slice());
-    assert_eq!(rt; namenode.size, 10);
+    assert_eq!(rt; namenode.entry().size, 10);
     run.write(b"kl")?;
     run.finish()?;
     completes(&rt, run, &namenode, b"abcdefghijkl", b"acd")
@@ -198,7 +196,7 @@ fn no_datanode(rt: HostRuntime) -> Result<(), Fail> {
             storage_id: b"DS-1",
             storage_type,
         };
-        fails(&rt, heap, &mut OneRow { row, token }, None, why)?;
+        fails(&rt, heap, &mut TestNamenode { row, token }, None, why)?;
     }
     Ok(())
 }

@@ -1,6 +1,5 @@
 //! What each call is refused with in each state, and by buffers that do not suffice: the state counts first, then the store, then the others.
 use crate::link::{Instead, TestLink};
-use crate::namenodes::watched::Watched;
 use crate::run::Run;
 use crate::sample::opening;
 use crate::start::{house, on_bench};
@@ -22,7 +21,7 @@ fn number<T: Drop>(outcome: Result<T, Refusal>) -> u8 {
 }
 
 // The numbers of write, heed, beat, recover and finish.
-fn numbers(run: &mut Run<TestLink<Bench>>, namenode: &mut Watched<House>) -> [u8; 5] {
+fn numbers(run: &mut Run<TestLink<Bench>>, namenode: &mut House) -> [u8; 5] {
     [
         number(run.write(b"abcd")),
         number(run.heed()),
@@ -37,7 +36,7 @@ fn numbers(run: &mut Run<TestLink<Bench>>, namenode: &mut Watched<House>) -> [u8
 fn refused(
     rt: &impl Abort,
     run: &mut Run<TestLink<Bench>>,
-    namenode: &mut Watched<House>,
+    namenode: &mut House,
     by_store: [u8; 5],
     by_frame: [u8; 5],
 ) -> Result<(), Fail> {

@@ -56,7 +56,7 @@ fn recovery(rt: HostRuntime) -> Result<(), Fail> {
     let other = octets(heap, 20)?;
     let own = run.buffers.swap_store(other);
     assert_eq!(rt; run.recover(&mut namenode, 200), Err(Refusal::Store));
-    assert_eq!(rt; namenode.stamp, 0);
+    assert!(rt; namenode.entry().nodes.is_empty());
     assert!(rt; run.link.asked.as_slice() == b"a".as_slice());
     run.buffers.swap_store(own);
     assert_eq!(rt;

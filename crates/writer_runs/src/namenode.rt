@@ -1,18 +1,18 @@
-//! A namenode whose list is one datanode, whoever is left.
-ghost use Rattle.std.specs.Prelude.{◌∷◌, [], Some, None};
-ghost use Rattle.namenode.specs.Entries.{row_of};
+//! A namenode with nothing right but its stamps.
+ghost use Rattle.std.specs.Prelude.{◌∷◌, []};
 
 use namenode::protocol::{NamenodeProtocol, Offered, Refused};
 use proto::datanode::Datanode;
 
-/// A namenode that offers this one datanode with this token, and gives nothing else.
+/// A namenode that offers this one datanode, whoever is left, gives stamp 1002, and refuses each update. It means nothing of its own, so its
+/// acts say nothing: a test looks at what came.
 #[derive(Clone, Copy)]
-pub struct OneRow {
+pub struct TestNamenode {
     pub row: Offered<'static>,
     pub token: &'static [u8],
 }
 
-impl NamenodeProtocol for OneRow {
+impl NamenodeProtocol for TestNamenode {
     ghost offer = { λ n. record { rows = record { info = n.row.info.now; storage = n.row.storage_id.now; kind = n.row.storage_type } ∷ []; token = n.token.now } };
 
     ghost token = { λ n. n.token.now };
@@ -48,7 +48,7 @@ impl NamenodeProtocol for OneRow {
     }
 
     fn update_block_for_pipeline(&mut self, _size: u64) -> Result<u64, Refused> {
-        Err(Refused)
+        Ok(1002)
     }
 
     fn stamp_token(&self) -> &[u8] {
