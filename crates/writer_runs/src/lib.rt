@@ -8,6 +8,8 @@ mod link;
 #[cfg(test)]
 mod namenode;
 #[cfg(test)]
+mod outcomes;
+#[cfg(test)]
 mod run;
 #[cfg(test)]
 mod sample;

@@ -18,6 +18,35 @@ pub struct Put {
     pub taken: bool,
 }
 
+impl Put {
+    /// A packet with so many bytes, which was taken.
+    pub fn data(offset: u64, seqno: u64, len: usize) -> Put {
+        Put {
+            offset,
+            seqno,
+            len,
+            last: false,
+            taken: true,
+        }
+    }
+
+    /// The block's empty last packet, which was taken.
+    pub fn last(offset: u64, seqno: u64) -> Put {
+        Put {
+            last: true,
+            ..Put::data(offset, seqno, 0)
+        }
+    }
+
+    /// The same, but lost.
+    pub fn lost(self) -> Put {
+        Put {
+            taken: false,
+            ..self
+        }
+    }
+}
+
 /// What comes in place of a response or an answer.
 #[derive(Clone, Copy, Debug, PartialEq, Eq)]
 pub enum Instead {

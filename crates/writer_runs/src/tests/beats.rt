@@ -1,6 +1,7 @@
 //! When a heartbeat is put: thirty seconds after the last opening, recovery or heartbeat, by a clock that may go back.
 use crate::ends::is_on;
 use crate::link::{Instead, Put, TestLink};
+use crate::outcomes::replayed;
 use crate::run::Run;
 use crate::sample::opening;
 use crate::start::{house, on_bench};
@@ -11,7 +12,6 @@ use std::test::Fail;
 use writer::beat::Beat;
 use writer::cause::Cause;
 use writer::heed::Heeded;
-use writer::recover::Recovered;
 use writer::refusal::Refusal;
 
 const HEART_BEAT: Put = Put {
@@ -116,15 +116,7 @@ fn lost(rt: HostRuntime) -> Result<(), Fail> {
     run.link.lose_put_after(0);
     beats(&rt, &mut run, &[(129, Beat::Idle), (130, Beat::Lost)]);
     assert_eq!(rt; run.beat(160), Err(Refusal::Broken));
-    assert_eq!(rt;
-        run.recover(&mut namenode, 170),
-        Ok(Recovered {
-            choice: None,
-            stamp: 1002,
-            replayed: 0,
-            put_lost: false
-        })
-    );
+    assert_eq!(rt; run.recover(&mut namenode, 170), Ok(replayed(1002, 0)));
     assert!(rt; is_on(namenode.entry(), b"b"));
     beats(&rt, &mut run, &[(199, Beat::Idle), (200, Beat::Put)]);
     run.write(b"abcd")?;

@@ -1,6 +1,7 @@
 //! Frames and answers that are lost, or that are not what they should be, and the block's end after the recovery.
 use crate::ends::{completes, is_on};
 use crate::link::Instead;
+use crate::outcomes::{FINISH_LOST, replay_lost, replayed, taken, taken_and_lost};
 use crate::sample::opening;
 use crate::start::{house, on_bench};
 use std::test::Fail;
@@ -8,37 +9,28 @@ use wire::field::{DecodeError, Fault};
 use writer::cause::Cause;
 use writer::finish::Finished;
 use writer::heed::Heeded;
-use writer::recover::Recovered;
 use writer::refusal::Refusal;
-use writer::write::Written;
 
 // The first, second or third frame of a write is lost: the bytes of its packet count as taken, and no more are.
 #[test]
 fn in_a_write(rt: HostRuntime) -> Result<(), Fail> {
     let heap = rt.alloc();
     let bytes = b"abcdefghijklmn";
-    for before in [0, 1, 2] {
+    // How many frames are taken before the one that is lost, how many packets are held then, and what is left to be written.
+    let table = [
+        (0, 1, 4, b"efghijklmn".as_slice()),
+        (1, 2, 8, b"ijklmn"),
+        (2, 3, 12, b"mn"),
+    ];
+    for (before, held, bytes_taken, rest) in table {
         let mut namenode = house(heap)?;
         let mut run = on_bench(heap, opening(2), b"", 28)?;
         run.link.lose_put_after(before);
-        let taken = 4 * before + 4;
-        assert_eq!(rt;
-            run.write(bytes),
-            Ok(Written {
-                taken,
-                put_lost: true
-            })
-        );
+        assert_eq!(rt; run.write(bytes), Ok(taken_and_lost(bytes_taken)));
         assert_eq!(rt; run.link.inner.pending(), before);
-        assert_eq!(rt; run.write(&bytes[taken..]), Err(Refusal::Broken));
-        let recovered = Recovered {
-            choice: None,
-            stamp: 1002,
-            replayed: before + 1,
-            put_lost: false,
-        };
-        assert_eq!(rt; run.recover(&mut namenode, 200), Ok(recovered));
-        run.write(&bytes[taken..])?;
+        assert_eq!(rt; run.write(rest), Err(Refusal::Broken));
+        assert_eq!(rt; run.recover(&mut namenode, 200), Ok(replayed(1002, held)));
+        assert_eq!(rt; run.write(rest), Ok(taken(rest.len())));
         run.finish()?;
         completes(&rt, run, &namenode, bytes, b"b")?;
     }
@@ -54,24 +46,12 @@ fn in_a_finish(rt: HostRuntime) -> Result<(), Fail> {
         let mut run = on_bench(heap, opening(3), b"", 28)?;
         run.write(b"ab")?;
         run.link.lose_put_after(before);
-        assert_eq!(rt; run.finish(), Ok(Finished { put_lost: true }));
+        assert_eq!(rt; run.finish(), Ok(FINISH_LOST));
         assert_eq!(rt; run.link.inner.pending(), before);
         assert_eq!(rt; run.finish(), Err(Refusal::Broken));
         run.link.lose_put_after(0);
-        let lost = Recovered {
-            choice: None,
-            stamp: 1002,
-            replayed: 0,
-            put_lost: true,
-        };
-        assert_eq!(rt; run.recover(&mut namenode, 200), Ok(lost));
-        let whole = Recovered {
-            choice: None,
-            stamp: 1003,
-            replayed: 2,
-            put_lost: false,
-        };
-        assert_eq!(rt; run.recover(&mut namenode, 200), Ok(whole));
+        assert_eq!(rt; run.recover(&mut namenode, 200), Ok(replay_lost(1002, 0)));
+        assert_eq!(rt; run.recover(&mut namenode, 200), Ok(replayed(1003, 2)));
         assert_eq!(rt; run.finish(), Err(Refusal::Finished));
         completes(&rt, run, &namenode, b"ab", b"c")?;
     }
@@ -90,24 +70,15 @@ fn in_a_replay(rt: HostRuntime) -> Result<(), Fail> {
         run.link.on_next(Instead::Lost);
         assert_eq!(rt; run.heed(), Ok(Heeded::Broken(Cause::Link)));
         run.link.lose_put_after(before);
-        let lost = Recovered {
-            choice: None,
-            stamp: 1002,
-            replayed: before,
-            put_lost: true,
-        };
-        assert_eq!(rt; run.recover(&mut namenode, 200), Ok(lost));
+        assert_eq!(rt;
+            run.recover(&mut namenode, 200),
+            Ok(replay_lost(1002, before))
+        );
         assert_eq!(rt; run.link.inner.pending(), before);
         assert_eq!(rt; (namenode.entry().stamp, namenode.entry().size), (1002, 14));
         assert!(rt; is_on(namenode.entry(), b"bc"));
         assert_eq!(rt; run.heed(), Err(Refusal::Broken));
-        let whole = Recovered {
-            choice: None,
-            stamp: 1003,
-            replayed: 3,
-            put_lost: false,
-        };
-        assert_eq!(rt; run.recover(&mut namenode, 200), Ok(whole));
+        assert_eq!(rt; run.recover(&mut namenode, 200), Ok(replayed(1003, 3)));
         run.finish()?;
         completes(&rt, run, &namenode, b"abcdefghijklmn", b"c")?;
     }

@@ -215,18 +215,18 @@ fn order(rt: HostRuntime) -> Result<(), Fail> {
 fn set_ups(rt: HostRuntime) -> Result<(), Fail> {
     let heap = rt.alloc();
     let table = [
-        (Instead::Lost, ReplyError::Lost, [0x77, 0x77, 0x77]),
+        (Instead::Lost, ReplyError::Lost, b"\x77\x77\x77".as_slice()),
         (
             Instead::Octets(b"\x08"),
             ReplyError::Undecodable,
-            [0x08, 0x77, 0x77],
+            b"\x08\x77\x77",
         ),
         (
             Instead::Octets(b"\x08\x01"),
             ReplyError::Status,
-            [0x08, 0x01, 0x77],
+            b"\x08\x01\x77",
         ),
-        (Instead::Octets(b""), ReplyError::Status, [0x77, 0x77, 0x77]),
+        (Instead::Octets(b""), ReplyError::Status, b"\x77\x77\x77"),
     ];
     for (instead, why, front) in table {
         let bench = Bench::over(heap, Vec::with_capacity(heap, 64)?)?;
@@ -239,7 +239,7 @@ fn set_ups(rt: HostRuntime) -> Result<(), Fail> {
         assert_eq!(rt; u8::from(refusal), 8);
         assert!(rt; run.buffers.store.as_slice() == before.store.as_slice());
         assert!(rt; run.buffers.frame.as_slice() == before.frame.as_slice());
-        assert!(rt; run.buffers.answer.starts_with(&front));
+        assert!(rt; run.buffers.answer.starts_with(front));
         assert!(rt; run.buffers.request.starts_with(&[0, 28, 80]));
         assert!(rt; run.link.asked.as_slice() == b"a".as_slice());
         assert_eq!(rt; run.write(b"abcd"), Err(Refusal::Closed));

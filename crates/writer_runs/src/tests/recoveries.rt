@@ -1,6 +1,7 @@
 //! A pipeline that breaks in each state in which it can, and the block's end after its recovery.
 use crate::ends::completes;
 use crate::link::{Instead, Put, TestLink};
+use crate::outcomes::{FINISH_LOST, FINISHED, replayed};
 use crate::run::Run;
 use crate::sample::opening;
 use crate::start::{house, on_bench};
@@ -13,7 +14,6 @@ use std::test::Fail;
 use writer::cause::Cause;
 use writer::finish::Finished;
 use writer::heed::Heeded;
-use writer::recover::Recovered;
 use writer::refusal::Refusal;
 
 // Where a block is when its pipeline breaks.
@@ -61,12 +61,12 @@ fn broken(
     }
     match at {
         At::Open => {}
-        At::Sent => assert_eq!(rt; run.finish(), Ok(Finished { put_lost: false })),
+        At::Sent => assert_eq!(rt; run.finish(), Ok(FINISHED)),
         At::Unsent => run.link.lose_put_after(0),
         At::LastLost => run.link.lose_put_after(1),
     }
     if matches!(at, At::Unsent | At::LastLost) {
-        assert_eq!(rt; run.finish(), Ok(Finished { put_lost: true }));
+        assert_eq!(rt; run.finish(), Ok(FINISH_LOST));
     } else {
         run.link.on_next(Instead::Lost);
         assert_eq!(rt; run.heed(), Ok(Heeded::Broken(Cause::Link)));
@@ -83,13 +83,11 @@ fn each_state(rt: HostRuntime) -> Result<(), Fail> {
         let mut run = broken(&rt, heap, bytes, confirmed, at)?;
         let len = bytes.len() as u64;
         run.link.puts.clear();
-        let recovered = Recovered {
-            choice: None,
-            stamp: 1002,
-            replayed: held,
-            put_lost: false,
-        };
-        assert_eq!(rt; run.recover(&mut namenode, 200), Ok(recovered), "case {i}");
+        assert_eq!(rt;
+            run.recover(&mut namenode, 200),
+            Ok(replayed(1002, held)),
+            "case {i}"
+        );
         let setup = Setup {
             stage: 3,
             pipeline_size: 2,
@@ -123,35 +121,11 @@ fn last_packet_unsent(rt: HostRuntime) -> Result<(), Fail> {
     let heap = rt.alloc();
     let mut namenode = house(heap)?;
     let mut run = broken(&rt, heap, b"abcdef", 0, At::Unsent)?;
-    let first = Put {
-        offset: 0,
-        seqno: 0,
-        len: 4,
-        last: false,
-        taken: true,
-    };
-    let second = Put {
-        offset: 4,
-        seqno: 1,
-        len: 2,
-        last: false,
-        taken: false,
-    };
-    assert!(rt; run.link.puts.as_slice() == [first, second].as_slice());
+    let (first, second, last) = (Put::data(0, 0, 4), Put::data(4, 1, 2), Put::last(6, 2));
+    assert!(rt; run.link.puts.as_slice() == [first, second.lost()].as_slice());
     run.link.puts.clear();
     run.recover(&mut namenode, 200)?;
-    let second = Put {
-        taken: true,
-        ..second
-    };
-    let third = Put {
-        offset: 6,
-        seqno: 2,
-        len: 0,
-        last: true,
-        taken: true,
-    };
-    assert!(rt; run.link.puts.as_slice() == [first, second, third].as_slice());
+    assert!(rt; run.link.puts.as_slice() == [first, second, last].as_slice());
     completes(&rt, run, &namenode, b"abcdef", b"bc")
 }
 
@@ -167,13 +141,7 @@ fn lost_confirmation(rt: HostRuntime) -> Result<(), Fail> {
     assert!(rt; run.link.inner.kept() == b"abcd".as_slice());
     run.link.on_next(Instead::Lost);
     assert_eq!(rt; run.heed(), Ok(Heeded::Broken(Cause::Link)));
-    let recovered = Recovered {
-        choice: None,
-        stamp: 1002,
-        replayed: 2,
-        put_lost: false,
-    };
-    assert_eq!(rt; run.recover(&mut namenode, 200), Ok(recovered));
+    assert_eq!(rt; run.recover(&mut namenode, 200), Ok(replayed(1002, 2)));
     assert!(rt; run.link.inner.kept().is_empty());
     assert_eq!(rt; run.link.inner.pending(), 2);
     run.finish()?;
@@ -189,12 +157,6 @@ fn again(rt: HostRuntime) -> Result<(), Fail> {
     run.recover(&mut namenode, 200)?;
     run.link.on_next(Instead::Lost);
     assert_eq!(rt; run.heed(), Ok(Heeded::Broken(Cause::Link)));
-    let recovered = Recovered {
-        choice: None,
-        stamp: 1003,
-        replayed: 3,
-        put_lost: false,
-    };
-    assert_eq!(rt; run.recover(&mut namenode, 200), Ok(recovered));
+    assert_eq!(rt; run.recover(&mut namenode, 200), Ok(replayed(1003, 3)));
     completes(&rt, run, &namenode, b"abcdef", b"c")
 }

@@ -2,6 +2,7 @@
 use crate::ends::completes;
 use crate::link::{Instead, TestLink};
 use crate::namenode::TestNamenode;
+use crate::outcomes::replayed;
 use crate::run::Run;
 use crate::sample::{INFOS, TOKEN, always, node, opening, token};
 use crate::start::{house, on_bench};
@@ -61,13 +62,7 @@ fn three_at_once(rt: HostRuntime) -> Result<(), Fail> {
         [true, false, true, false, true, false, false, false]
     );
     assert_eq!(rt; (failed.count, failed.highest), (3, 4));
-    let recovered = Recovered {
-        choice: None,
-        stamp: 1002,
-        replayed: 2,
-        put_lost: false,
-    };
-    assert_eq!(rt; run.recover(&mut namenode, 200), Ok(recovered));
+    assert_eq!(rt; run.recover(&mut namenode, 200), Ok(replayed(1002, 2)));
     assert!(rt; run.link.asked.as_slice() == b"ab".as_slice());
     run.finish()?;
     completes(&rt, run, &namenode, b"abcdefghij", b"bd")
@@ -100,13 +95,7 @@ fn default_policy(rt: HostRuntime) -> Result<(), Fail> {
     let by_default = ReplaceDatanodeOnFailure::new(Policy::Default, false);
     let mut namenode = pool(heap, token()?)?;
     let mut run = without_b(heap, by_default)?;
-    let none = Recovered {
-        choice: None,
-        stamp: 1002,
-        replayed: 2,
-        put_lost: false,
-    };
-    assert_eq!(rt; run.recover(&mut namenode, 200), Ok(none));
+    assert_eq!(rt; run.recover(&mut namenode, 200), Ok(replayed(1002, 2)));
     run.link.on_next(Instead::Lost);
     run.heed()?;
     let added = Recovered {
@@ -124,12 +113,7 @@ fn default_policy(rt: HostRuntime) -> Result<(), Fail> {
 #[test]
 fn best_effort(rt: HostRuntime) -> Result<(), Fail> {
     let heap = rt.alloc();
-    let recovered = Recovered {
-        choice: None,
-        stamp: 1002,
-        replayed: 2,
-        put_lost: false,
-    };
+    let recovered = replayed(1002, 2);
     let mut namenode = house(heap)?;
     let mut run = without_b(heap, always(true))?;
     assert_eq!(rt; run.recover(&mut namenode, 200), Ok(recovered));

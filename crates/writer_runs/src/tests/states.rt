@@ -1,5 +1,6 @@
 //! What each call is refused with in each state, and by buffers that do not suffice: the state counts first, then the store, then the others.
 use crate::link::{Instead, TestLink};
+use crate::outcomes::{FINISHED, taken};
 use crate::run::Run;
 use crate::sample::opening;
 use crate::start::{house, on_bench};
@@ -8,10 +9,8 @@ use pool::memory::House;
 use std::process::Abort;
 use std::test::Fail;
 use writer::cause::Cause;
-use writer::finish::Finished;
 use writer::heed::Heeded;
 use writer::refusal::Refusal;
-use writer::write::Written;
 
 fn number<T: Drop>(outcome: Result<T, Refusal>) -> u8 {
     match outcome {
@@ -134,13 +133,7 @@ fn incomplete(rt: HostRuntime) -> Result<(), Fail> {
 fn places(rt: HostRuntime) -> Result<(), Fail> {
     let heap = rt.alloc();
     let mut run = on_bench(heap, opening(2), b"", 12)?;
-    assert_eq!(rt;
-        run.write(b"abcdefghij"),
-        Ok(Written {
-            taken: 10,
-            put_lost: false
-        })
-    );
+    assert_eq!(rt; run.write(b"abcdefghij"), Ok(taken(10)));
     let before = run.buffers.copy()?;
     let last = run.buffers.answer.pop().ok_or("there is no answer buffer")?;
     assert_eq!(rt; number(run.finish()), 7);
@@ -156,7 +149,7 @@ fn places(rt: HostRuntime) -> Result<(), Fail> {
     assert!(rt; run.buffers.store.as_slice() == before.store.as_slice());
     assert!(rt; run.buffers.frame.as_slice() == before.frame.as_slice());
     assert_eq!(rt; run.heed(), Ok(Heeded::Confirmed(1)));
-    assert_eq!(rt; run.finish(), Ok(Finished { put_lost: false }));
+    assert_eq!(rt; run.finish(), Ok(FINISHED));
     assert_eq!(rt; run.heed_all(), Ok(Heeded::Complete(3)));
     let (record, link) = run.close();
     assert_eq!(rt; record?.num_bytes, 10);

@@ -1,14 +1,13 @@
 //! A store of another length is refused by every call that is lent one; the writer's own stays as it was, and the run goes on with it.
 use crate::link::Instead;
+use crate::outcomes::{replayed, taken};
 use crate::run::octets;
 use crate::sample::opening;
 use crate::start::{house, on_bench};
 use std::test::Fail;
 use writer::cause::Cause;
 use writer::heed::Heeded;
-use writer::recover::Recovered;
 use writer::refusal::Refusal;
-use writer::write::Written;
 
 #[test]
 fn shorter_and_longer(rt: HostRuntime) -> Result<(), Fail> {
@@ -28,13 +27,7 @@ fn shorter_and_longer(rt: HostRuntime) -> Result<(), Fail> {
         assert_eq!(rt; run.link.puts.len(), 2);
         assert!(rt; own.starts_with(b"abcdefghij"));
         run.buffers.swap_store(own);
-        assert_eq!(rt;
-            run.write(b"klm"),
-            Ok(Written {
-                taken: 3,
-                put_lost: false
-            })
-        );
+        assert_eq!(rt; run.write(b"klm"), Ok(taken(3)));
         run.finish()?;
         assert_eq!(rt; run.heed_all(), Ok(Heeded::Complete(4)));
         let (record, link) = run.close();
@@ -59,15 +52,7 @@ fn recovery(rt: HostRuntime) -> Result<(), Fail> {
     assert!(rt; namenode.entry().nodes.is_empty());
     assert!(rt; run.link.asked.as_slice() == b"a".as_slice());
     run.buffers.swap_store(own);
-    assert_eq!(rt;
-        run.recover(&mut namenode, 200),
-        Ok(Recovered {
-            choice: None,
-            stamp: 1002,
-            replayed: 2,
-            put_lost: false
-        })
-    );
+    assert_eq!(rt; run.recover(&mut namenode, 200), Ok(replayed(1002, 2)));
     run.finish()?;
     assert_eq!(rt; run.heed_all(), Ok(Heeded::Complete(3)));
     assert!(rt; run.close().1.inner.kept() == b"abcdefghij".as_slice());
