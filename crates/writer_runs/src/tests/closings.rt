@@ -105,21 +105,25 @@ fn positions(rt: HostRuntime) -> Result<(), Fail> {
     Ok(())
 }
 
-// No stamp after the last one, and a token that is out of form. The link is not asked.
+// A namenode at that stamp with that token gives no stamp. The link is not asked.
+fn no_stamp(rt: &impl Abort, heap: Global, stamp: u64, token: Token) -> Result<(), Fail> {
+    let mut namenode = House::new(heap, stamp, 0, &[], token)?;
+    let mut run = broken(heap, 2, Instead::Lost)?;
+    let before = run.buffers.copy()?;
+    let refusal = recovery(rt, &mut run, &mut namenode, 14)?;
+    assert_eq!(rt; refusal, Refusal::Stamp);
+    assert!(rt; run.buffers.same_as(&before));
+    assert!(rt; run.link.asked.as_slice() == b"a".as_slice());
+    assert!(rt; namenode.entry().nodes.is_empty());
+    Ok(())
+}
+
+// There is no stamp after the last one, and a token may be out of form.
 #[test]
 fn stamps(rt: HostRuntime) -> Result<(), Fail> {
     let heap = rt.alloc();
-    let good = token()?;
-    for (stamp, token) in [(u64::MAX, good), (1001, Token::none())] {
-        let mut namenode = House::new(heap, stamp, 0, &[], token)?;
-        let mut run = broken(heap, 2, Instead::Lost)?;
-        let before = run.buffers.copy()?;
-        assert_eq!(rt; recovery(&rt, &mut run, &mut namenode, 14)?, Refusal::Stamp);
-        assert!(rt; run.buffers.same_as(&before));
-        assert!(rt; run.link.asked.as_slice() == b"a".as_slice());
-        assert!(rt; namenode.entry().nodes.is_empty());
-    }
-    Ok(())
+    no_stamp(&rt, heap, u64::MAX, token()?)?;
+    no_stamp(&rt, heap, 1001, Token::none())
 }
 
 // A set up that is lost, cannot be read, has another status, or has none. No packet is put again, and the namenode is not told.

@@ -151,6 +151,14 @@ fn forms(rt: HostRuntime) -> Result<(), Fail> {
     for (i, block) in table.into_iter().enumerate() {
         assert_eq!(rt; number(&rt, rt.alloc(), block)?, 5, "row {i}");
     }
+    let longest = Opening {
+        storage_types: &[127],
+        path: &long[..255],
+        pool_id: &long[..64],
+        client_name: &long[..64],
+        ..opening(1)
+    };
+    assert_eq!(rt; number(&rt, rt.alloc(), longest)?, 0);
     Ok(())
 }
 
