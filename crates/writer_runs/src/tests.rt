@@ -2,6 +2,7 @@
 mod appends;
 mod beats;
 mod closings;
+mod first_set_up;
 mod losses;
 mod opening;
 mod recoveries;
