@@ -6,10 +6,45 @@ use crate::run::{Buffers, Run, octets};
 use crate::sample::opening;
 use crate::start::{house, on_bench};
 use spool::state::Spool;
+use std::alloc::Global;
+use std::process::Abort;
 use std::test::Fail;
 use writer::cause::Cause;
 use writer::heed::Heeded;
 use writer::opening::Opening;
+
+// Seven bytes more are written to a block that has `kept`: they go out in these packets, and the block is `all`.
+fn append(
+    rt: &impl Abort,
+    heap: Global,
+    kept: &[u8],
+    all: &[u8],
+    puts: &[Put],
+) -> Result<(), Fail> {
+    let initial_len = kept.len() as u64;
+    let len = all.len() as u64;
+    let block = Opening {
+        initial_len,
+        ..opening(2)
+    };
+    let mut run = on_bench(heap, block, kept, 20)?;
+    let setup = run.link.setup.ok_or("no set up")?;
+    assert_eq!(rt; setup.stage, 0);
+    assert_eq!(rt; setup.min_bytes, initial_len);
+    assert_eq!(rt; setup.max_bytes, initial_len);
+    assert_eq!(rt; run.write(b"abcdefg"), Ok(taken(7)));
+    run.finish()?;
+    let end = puts.len() as u64;
+    assert_eq!(rt; run.link.puts.pop(), Some(Put::last(len, end)));
+    assert!(rt; run.link.puts.as_slice() == puts);
+    assert_eq!(rt; run.heed_all(), Ok(Heeded::Complete(end)));
+    let (record, link) = run.close();
+    let record = record?;
+    assert_eq!(rt; record.num_bytes, len);
+    assert_eq!(rt; record.generation_stamp, 1001);
+    assert!(rt; link.inner.kept() == all);
+    Ok(())
+}
 
 // Ten bytes end within a chunk of four: the first packet has the two that are left of it. Eight bytes end with one.
 #[test]
@@ -20,41 +55,9 @@ fn first_packet(rt: HostRuntime) -> Result<(), Fail> {
         Put::data(12, 1, 4),
         Put::data(16, 2, 1),
     ];
+    append(&rt, heap, b"0123456789", b"0123456789abcdefg", &within)?;
     let between = [Put::data(8, 0, 4), Put::data(12, 1, 3)];
-    let table = [
-        (
-            b"0123456789".as_slice(),
-            b"0123456789abcdefg".as_slice(),
-            within.as_slice(),
-        ),
-        (b"01234567", b"01234567abcdefg", between.as_slice()),
-    ];
-    for (kept, all, puts) in table {
-        let initial_len = kept.len() as u64;
-        let len = all.len() as u64;
-        let block = Opening {
-            initial_len,
-            ..opening(2)
-        };
-        let mut run = on_bench(heap, block, kept, 20)?;
-        let setup = run.link.setup.ok_or("no set up")?;
-        assert_eq!(rt; setup.stage, 0);
-        assert_eq!(rt;
-            (setup.min_bytes, setup.max_bytes),
-            (initial_len, initial_len)
-        );
-        assert_eq!(rt; run.write(b"abcdefg"), Ok(taken(7)));
-        run.finish()?;
-        let end = puts.len() as u64;
-        assert_eq!(rt; run.link.puts.pop(), Some(Put::last(len, end)));
-        assert!(rt; run.link.puts.as_slice() == puts);
-        assert_eq!(rt; run.heed_all(), Ok(Heeded::Complete(end)));
-        let (record, link) = run.close();
-        let record = record?;
-        assert_eq!(rt; (record.num_bytes, record.generation_stamp), (len, 1001));
-        assert!(rt; link.inner.kept() == all);
-    }
-    Ok(())
+    append(&rt, heap, b"01234567", b"01234567abcdefg", &between)
 }
 
 // Packets of two chunks: the first one still has only what ends the chunk, and the others have both.

@@ -150,9 +150,15 @@ fn forms(rt: HostRuntime) -> Result<(), Fail> {
     for (i, block) in table.into_iter().enumerate() {
         assert_eq!(rt; number(&rt, rt.alloc(), block)?, 5, "row {i}");
     }
+    Ok(())
+}
+
+#[test]
+fn longest_forms(rt: HostRuntime) -> Result<(), Fail> {
+    let long = [b'x'; 255];
     let longest = Opening {
         storage_types: &[127],
-        path: &long[..255],
+        path: &long,
         pool_id: &long[..64],
         client_name: &long[..64],
         ..opening(1)
