@@ -6,8 +6,6 @@ mod ends;
 #[cfg(test)]
 mod link;
 #[cfg(test)]
-mod namenode;
-#[cfg(test)]
 mod outcomes;
 #[cfg(test)]
 mod run;
@@ -15,5 +13,7 @@ mod run;
 mod sample;
 #[cfg(test)]
 mod start;
+#[cfg(test)]
+mod test_namenode;
 #[cfg(test)]
 mod tests;

@@ -3,10 +3,10 @@
 ghost use Rattle.std.specs.Prelude.{◌≤◌};
 
 use crate::link::{Instead, TestLink};
-use crate::namenode::TestNamenode;
 use crate::run::Run;
 use crate::sample::{INFOS, TOKEN, opening, token};
 use crate::start::{house, on_bench};
+use crate::test_namenode::TestNamenode;
 use bench::state::Bench;
 use namenode::protocol::{NamenodeProtocol, Offered};
 use pipeline::reply::ReplyError;

@@ -1,11 +1,11 @@
 //! Datanodes that failed, and what comes in their places: none, or one of the namenode's list.
 use crate::ends::completes;
 use crate::link::{Instead, TestLink};
-use crate::namenode::TestNamenode;
 use crate::outcomes::replayed;
 use crate::run::Run;
 use crate::sample::{INFOS, TOKEN, always, node, opening, token};
 use crate::start::{house, on_bench};
+use crate::test_namenode::TestNamenode;
 use bench::state::Bench;
 use namenode::protocol::{NamenodeProtocol, Offered};
 use pipeline::add_datanode::NoDatanode;
