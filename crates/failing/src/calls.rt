@@ -2,7 +2,7 @@
 ghost use Rattle.std.specs.Prelude.{◌≡◌, Some, None};
 ghost use Rattle.ack.specs.Verdicts.{passes};
 ghost use Rattle.chain.specs.Acts.{Answered};
-ghost use Rattle.failing.specs.Fails.{Nexts, Refuses};
+ghost use Rattle.failing.specs.Fails.{Nexts, Refuses, due};
 ghost use Rattle.std.proofs.Common.{rules};
 
 use crate::node::{FailingNode, Failure};
@@ -68,6 +68,18 @@ fn refuse(
     Ok(Some(len))
 }
 
+impl<C> FailingNode<C> {
+    // Whether it is the turn of the packet at which the datanode fails.
+    fn is_due(&self) -> bool
+        ensures { result ≡ due self.now }
+    {
+        match self.failure {
+            Failure::Due => self.answered >= self.packet,
+            Failure::Ahead | Failure::Past => false,
+        }
+    }
+}
+
 impl<C: Link> Link for FailingNode<C> {
     ghost sets = { λ a node request least came b. C.Link.sets a.inner node request least came b.inner };
 
@@ -96,7 +108,7 @@ impl<C: Link> Link for FailingNode<C> {
     }
 
     fn next(&mut self, answer: &mut [u8]) -> Result<Option<usize>, LinkLost> {
-        if self.failure == Failure::Due && self.answered >= self.packet {
+        if self.is_due() {
             self.failure = Failure::Past;
             return refuse(answer, self.packet, self.position, self.nodes);
         }
