@@ -1,6 +1,6 @@
 //! What can be seen of a bench's nodes.
 ghost use Rattle.std.specs.Prelude.{◌≡◌, ◌<◌, ◌≤◌, length, take, Some, None};
-ghost use Rattle.spool.specs.Spools.{view_of};
+ghost use Rattle.spool.specs.Spools.{view_of, first_number};
 
 use crate::state::Bench;
 
@@ -17,6 +17,13 @@ impl Bench {
         ensures { result ≡ length (view_of self.now.lead).held }
     {
         self.lead.pending()
+    }
+
+    /// The number of the first packet that waits.
+    pub fn first(&self) -> Option<u64>
+        ensures { result ≡ first_number (view_of self.now.lead).held }
+    {
+        self.lead.first()
     }
 
     // The replicas are lent by count and number, by no iterator: what is promised speaks of the replica of number `i`.

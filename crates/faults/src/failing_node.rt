@@ -1,28 +1,62 @@
-//! The pipeline with its failing datanode as a link, and as a chain.
+//! A pipeline one of whose datanodes fails, once, at a packet of the user's choice.
 ghost use Rattle.std.specs.Prelude.{◌≡◌, Some, None};
 ghost use Rattle.ack.specs.Verdicts.{passes};
 ghost use Rattle.chain.specs.Acts.{Answered};
-ghost use Rattle.failing.specs.Fails.{Nexts, Refuses, due};
+ghost use Rattle.faults.specs.Fails.{Nexts, Refuses, due};
 ghost use Rattle.std.proofs.Common.{rules};
 
-use crate::node::{FailingNode, Failure};
-use ack::ack::{Verdict, judge};
+use crate::answer::{ANSWER_LEN, ERROR, NODES, SUCCESS, passing};
 use ack::write::write_ack;
 use chain::link::{Link, LinkLost};
 use chain::meaning::Chain;
 use packet::read::read_frame;
 use proto::datanode::Datanode;
 
-/// So many octets hold an answer with eight replies.
-const ANSWER_LEN: usize = 32;
+/// Whether the failure is to come.
+#[derive(Clone, Copy, Debug, PartialEq, Eq)]
+pub(crate) enum Failure {
+    /// The packet has not been put yet.
+    Ahead,
+    /// The packet is pending.
+    Due,
+    Past,
+}
 
-/// A pipeline has so many datanodes at most.
-const NODES: usize = 8;
+/// A pipeline as `inner` is, but for one answer: when it is the turn of the packet of a chosen number, the datanode at `position` says that it
+/// failed. `nodes` are the pipeline's datanodes, each of which answers.
+#[derive(Drop)]
+pub struct FailingNode<C> {
+    pub(crate) inner: C,
+    pub(crate) packet: u64,
+    pub(crate) position: usize,
+    pub(crate) nodes: usize,
+    pub(crate) failure: Failure,
+    /// How many packets were answered for.
+    pub(crate) answered: u64,
+}
 
-/// `SUCCESS` and `ERROR` of datatransfer.proto.
-const SUCCESS: u8 = 0;
+impl<C> FailingNode<C> {
+    /// The datanode at `position` of `nodes` fails at the packet of that number.
+    pub fn at_packet(inner: C, packet: u64, position: usize, nodes: usize) -> FailingNode<C>
+        ensures { result.inner ≡ inner }
+    {
+        FailingNode {
+            inner,
+            packet,
+            position,
+            nodes,
+            failure: Failure::Ahead,
+            answered: 0,
+        }
+    }
 
-const ERROR: u8 = 1;
+    /// The pipeline itself.
+    pub fn inner(&self) -> &C
+        ensures { result.now ≡ self.now.inner }
+    {
+        &self.inner
+    }
+}
 
 // Whether a frame is that of the packet of this number.
 fn has_number(frame: &[u8], seqno: u64) -> bool {
@@ -43,9 +77,9 @@ fn make_refusal(
     *replies.get_mut(position)? = ERROR;
     let len = write_ack(out, seqno, replies.get(0..nodes)?)?;
     let made = out.get(0..len)?;
-    match judge(made) {
-        Ok(Verdict::Failed(_)) => Some(made),
-        _ => None,
+    match passing(made) {
+        Some(_) => None,
+        None => Some(made),
     }
 }
 

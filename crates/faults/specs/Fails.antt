@@ -2,9 +2,9 @@
 use Rattle.std.specs.Prelude.{◌≡◌, Bool, true, false, ◌&&◌, ◌⊎◌, List, None, nat_le}
 use Rattle.ack.specs.Verdicts.{passes}
 use Rattle.chain.specs.Acts.{Came, nothing, lost, answer}
-use Rattle.failing.specs.declared.node.Failure.{Failure}
-use Rattle.failing.specs.declared.node.Failure.TheVariants as failure
-use Rattle.failing.specs.declared.node.FailingNode.{FailingNode}
+use Rattle.faults.specs.declared.failing_node.Failure.{Failure}
+use Rattle.faults.specs.declared.failing_node.Failure.TheVariants as failure
+use Rattle.faults.specs.declared.failing_node.FailingNode.{FailingNode}
 
 -- an answer that does not pass, or none for which there was room
 abbrev pub Refuses : Came → Type 0
