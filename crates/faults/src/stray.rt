@@ -20,13 +20,14 @@ fn is_stray(message: &[u8], awaited: Option<u64>) -> bool
     }
 }
 
-// An answer in which some of the nodes say that they failed.
+// An answer in which one or two of the nodes say that they failed. Now and then it has more replies than there are nodes.
 fn make_failure(
     chance: &mut Chance,
     out: &mut [u8; ANSWER_LEN],
     seqno: u64,
     nodes: usize,
 ) -> Option<usize> {
+    let nodes = if chance.one_in(32) { NODES } else { nodes };
     let mut replies = [SUCCESS; NODES];
     let at = chance.below(nodes as u64) as usize;
     *replies.get_mut(at)? = ERROR;

@@ -4,7 +4,7 @@ use crate::options::Options;
 use crate::record::show_record;
 use crate::write::write_block;
 use bench::state::Bench;
-use failing::node::FailingNode;
+use faults::failing_node::FailingNode;
 use packet::size::PacketSize;
 use pool::memory::Pool;
 use replace::datanode::ReplaceDatanodeOnFailure;
