@@ -1,7 +1,8 @@
 -- A pipeline with faults still means what a chain means. Assumes nothing.
 use Rattle.std.specs.Prelude.{◌≡◌, ℕ, Bool, true, false, List, Some, None, Option, refl}
-use Rattle.std.proofs.Common.{inl, inr, sym, ap, subst, arith}
+use Rattle.std.proofs.Common.{inl, inr, sym, ap, subst}
 use Rattle.std.proofs.lemmas.Bool.{false≢true}
+use Rattle.std.proofs.lemmas.Option.{none-some}
 use Rattle.proto.specs.declared.datanode.Datanode.{Datanode}
 use Rattle.chain.specs.Acts.{Came}
 use Rattle.chain.specs.Meaning.{Seen, SetsUp}
@@ -12,10 +13,7 @@ use Rattle.faults.specs.Links.{Spoils, Sets, Puts, Nexts, Transfers}
 
 nothing_came : (request : List ℕ) (least : ℕ) (came : Option (List ℕ)) (s t : Seen) → came ≡ None → t ≡ s → SetsUp request least came s t
 nothing_came request least None s t n e = e
-nothing_came request least (Some r) s t n e = let z : ◌≡◌ {A = ℕ} 0 1 = cc in absurd (z-not z)
-  where
-    z-not : ◌≡◌ {A = ℕ} 0 1 → ⊥
-    z-not z = omega arith
+nothing_came request least (Some r) s t n e = absurd (none-some r (sym n))
 
 spoilt : (request : List ℕ) (least : ℕ) (own came : Option (List ℕ)) (s t : Seen) → Spoils own came → SetsUp request least own s t → SetsUp request least came s t
 spoilt request least None came s t p e = nothing_came request least came s t p e

@@ -12,7 +12,7 @@ use writer::recover::Recovered;
 use writer::refusal::Refusal;
 
 /// What the writer is in the midst of.
-#[derive(Clone, Copy, Debug, PartialEq, Eq)]
+#[derive(Clone, Copy)]
 pub enum Phase {
     Whole,
     Broken(FailedNodes),

@@ -6,7 +6,7 @@ use proto::datanode::Datanode;
 
 const PLACES: usize = 8;
 
-#[derive(Clone, Copy, Debug, PartialEq, Eq)]
+#[derive(Clone, Copy, PartialEq, Eq)]
 pub struct Nodes {
     letters: [u8; PLACES],
     len: usize,

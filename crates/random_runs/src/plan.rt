@@ -33,6 +33,8 @@ pub struct Plan {
     /// The block has so many bytes already.
     pub initial: u64,
     pub nodes: usize,
+    pub replication: u32,
+    /// The namenode has so many datanodes to spare.
     pub spares: usize,
     pub replace: ReplaceDatanodeOnFailure,
     pub rarity: u64,
@@ -78,6 +80,7 @@ impl Plan {
             block_size,
             initial,
             nodes: nodes as usize,
+            replication: nodes as u32,
             spares: chance.below(5) as usize,
             replace: ReplaceDatanodeOnFailure::new(policy, chance.one_in(2)),
             rarity: one_of(chance, &RARITIES, 40),

@@ -97,7 +97,7 @@ impl Site {
             block_size: plan.block_size,
             chunk_size: plan.size.chunk_size(),
             packet_size: plan.packet,
-            replication: plan.nodes as u32,
+            replication: plan.replication,
             replace: plan.replace,
             infos: INFOS.get(0..plan.nodes).context("there are too few datanodes")?,
             storage_ids: STORAGE_IDS.get(0..plan.nodes).context("there are too few storages")?,

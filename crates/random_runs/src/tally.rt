@@ -8,7 +8,7 @@ use writer::refusal::Refusal;
 /// Refusals have numbers below this.
 const NUMBERS: usize = 28;
 
-#[derive(Clone, Copy, Debug)]
+#[derive(Clone, Copy)]
 pub struct Tally {
     pub blocks: u64,
     pub calls: u64,

@@ -1,5 +1,6 @@
 -- The step of heed, for whatever came. Assumes nothing.
 use Rattle.std.proofs.Common.{◌≡◌, ℕ, ◌-◌, ◌^◌, ◌<◌, ◌≤◌, true, false, cond, ◌&&◌, eqb, ◌≢◌, List, [], length, Some, None, Ok, Err, Option, Result, sym, refl, ◌∙◌, subst, arith}
+use Rattle.std.proofs.lemmas.Option.{none-some}
 use Rattle.std.proofs.lemmas.Bool.{cond-true, cond-false, cond_both, eq-eqb, eqb-true, ltb-true, and_parts, and_from, lt-ltb, false≢true}
 use Rattle.wire.specs.declared.field.DecodeError.{DecodeError}
 use Rattle.wire.specs.Read.{and_then}
@@ -90,9 +91,6 @@ module _ {C : Type 0} (nexts : C → Came → C → Type 0) (seen : C → Seen) 
       let is = cond-true (listens v.state) (on_heard v (heard_in d.came)) decision.Wait (whole refl) in
       rw (d.result, d.writer, is) k
 
-some_none : {A : Type 0} (x : A) → ◌≡◌ {A = Option A} (Some x) None → ⊥
-some_none x e = let z : ◌≡◌ {A = ℕ} 0 1 = cc in omega arith
-
 -- which states listen
 pub listens_heed : (v : View) (l : Lens) → refusal_for v call.Heed l ≡ None → listens v.state ≡ true
 listens_heed v l e = in_state v.state (by_room v.terms l) e
@@ -100,6 +98,6 @@ listens_heed v l e = in_state v.state (by_room v.terms l) e
     in_state : (s : State) (o : Option Refusal) → or_else (by_state s call.Heed) o ≡ None → listens s ≡ true
     in_state Streaming o e = refl
     in_state Finishing o e = refl
-    in_state (Broken cause finished) o e = absurd (some_none _ e)
-    in_state Complete o e = absurd (some_none _ e)
-    in_state Closed o e = absurd (some_none _ e)
+    in_state (Broken cause finished) o e = absurd (none-some _ (sym e))
+    in_state Complete o e = absurd (none-some _ (sym e))
+    in_state Closed o e = absurd (none-some _ (sym e))

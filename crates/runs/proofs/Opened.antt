@@ -1,6 +1,7 @@
 -- A block that was opened without refusal has the invariant. Assumes nothing.
 use Rattle.std.proofs.Common.{◌≡◌, ℕ, List, [], length, Some, None, Ok, Err, Option, Result, sym, refl, ap, ◌∙◌, arith}
 use Rattle.std.proofs.lemmas.List.{append-nil, take_all}
+use Rattle.std.proofs.lemmas.Option.{none-some}
 use Rattle.std.specs.Bool.{⊤}
 use Rattle.proto.specs.declared.datanode.Datanode.{Datanode}
 use Rattle.proto.specs.declared.token.Token.{Token}
@@ -28,9 +29,6 @@ use Rattle.runs.proofs.Invariant.{Holds, Entered}
 
 ok_lost : {A E : Type 0} (x : A) (e : E) → ◌≡◌ {A = Result A E} (Ok x) (Err e) → ⊥
 ok_lost x e is = let z : ◌≡◌ {A = ℕ} 0 1 = cc in omega arith
-
-some_none : {A : Type 0} (x : A) → ◌≡◌ {A = Option A} None (Some x) → ⊥
-some_none x e = let z : ◌≡◌ {A = ℕ} 0 1 = cc in omega arith
 
 -- where a set up was granted, a response came, and the pipeline is anew
 module _ {C : Type 0} (sets : C → Datanode → List ℕ → ℕ → Option (List ℕ) → C → Type 0) (seen : C → Seen)
@@ -79,10 +77,10 @@ module _ {C N : Type 0} (sets : C → Datanode → List ℕ → ℕ → Option (
           holds = fresh_holds o l token chain nodes v store (seen a) (seen b) n.setup long s.1 initial (n.is ∙ ap (λ (k : ℕ). rebuilt n.setup k (seen a)) d.settles.of_least);
           stamp = s.1.stamp;
         }
-    of_reply request request' answer answer' (Err why) token terms chain d s = absurd (some_none _ s.0)
+    of_reply request request' answer answer' (Err why) token terms chain d s = absurd (none-some _ s.0)
 
     of_refusal : (request request' answer answer' : List ℕ) (r : Option Refusal) → Opens sets r o l a request answer None v b request' answer' → Began
-    of_refusal request request' answer answer' (Some refusal) d = absurd (some_none _ d.0)
+    of_refusal request request' answer answer' (Some refusal) d = absurd (none-some _ d.0)
     of_refusal request request' answer answer' None d = of_reply request request' answer answer' d.reply d.token d.terms d.nodes d.sets_up d.then
 
   pub opened : (o : Opening) (link : C) (p : Point C N) → Begins sets seen entry o link p
