@@ -41,7 +41,7 @@ impl Run {
         is_refused(&self.model, &command, outcome, other)?;
         self.model
             .take(&command, outcome, self.site.namenode.inner())?;
-        is_whole(self.site.link.inner(), &self.model)?;
+        is_whole(self.site.link.inner(), &self.model, self.capacity)?;
         is_told(&self.site.link, before, outcome, self.capacity)
     }
 

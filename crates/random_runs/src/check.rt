@@ -48,8 +48,9 @@ pub fn is_refused(
     Ok(())
 }
 
-/// Whole: what all datanodes have confirmed is the beginning of the block's bytes, and what one of them holds besides goes on with them.
-pub fn is_whole(bench: &Bench, model: &Model) -> anyhow::Result<()> {
+/// Whole: what all datanodes have confirmed is the beginning of the block's bytes, what one of them holds besides goes on with them, and while
+/// nothing is broken no more is missing there than the packet being filled.
+pub fn is_whole(bench: &Bench, model: &Model, capacity: usize) -> anyhow::Result<()> {
     let kept = bench.kept();
     ensure!(
         model.bytes.starts_with(kept),
@@ -64,6 +65,10 @@ pub fn is_whole(bench: &Bench, model: &Model) -> anyhow::Result<()> {
         ensure!(
             model.bytes.starts_with(replica),
             "a replica is not the beginning of the block"
+        );
+        ensure!(
+            model.bytes.len().saturating_sub(replica.len()) <= model.may_lack(capacity),
+            "a packet was not put"
         );
     }
     Ok(())

@@ -65,6 +65,16 @@ impl Model {
         matches!(self.phase, Phase::Broken(_))
     }
 
+    /// So many of the block's bytes may be missing from what the pipeline has: those of the packet being filled, which has `capacity` at most.
+    pub fn may_lack(&self, capacity: usize) -> usize {
+        match self.phase {
+            Phase::Whole if self.finished => 0,
+            Phase::Whole => capacity,
+            Phase::Complete => 0,
+            Phase::Broken(_) | Phase::Closed => self.bytes.len(),
+        }
+    }
+
     /// The refusal that a call must get for what the writer is in the midst of.
     pub fn refusal(&self, command: &Command<'_>) -> Option<Refusal> {
         match (self.phase, command) {
