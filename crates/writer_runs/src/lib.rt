@@ -2,17 +2,29 @@
 #![tactic(auto)]
 
 #[cfg(test)]
-mod ends;
+mod agree;
+#[cfg(test)]
+mod buffers;
+#[cfg(test)]
+mod case;
+#[cfg(test)]
+mod end;
+#[cfg(test)]
+mod field;
 #[cfg(test)]
 mod link;
 #[cfg(test)]
-mod outcomes;
+mod look;
+#[cfg(test)]
+mod nodes;
+#[cfg(test)]
+mod play;
 #[cfg(test)]
 mod run;
 #[cfg(test)]
 mod sample;
 #[cfg(test)]
-mod start;
+mod step;
 #[cfg(test)]
 mod test_namenode;
 #[cfg(test)]

@@ -18,37 +18,20 @@ pub struct Put {
     pub taken: bool,
 }
 
-impl Put {
-    /// A packet with so many bytes, which was taken.
-    pub fn data(offset: u64, seqno: u64, len: usize) -> Put {
-        Put {
-            offset,
-            seqno,
-            len,
-            last: false,
-            taken: true,
-        }
-    }
+/// A packet with data, which was taken. A test writes its places and its length over these.
+pub const DATA: Put = Put {
+    offset: 0,
+    seqno: 0,
+    len: 0,
+    last: false,
+    taken: true,
+};
 
-    /// The block's empty last packet, which was taken.
-    pub fn last(offset: u64, seqno: u64) -> Put {
-        Put {
-            last: true,
-            ..Put::data(offset, seqno, 0)
-        }
-    }
-
-    /// The same, but lost.
-    pub fn lost(self) -> Put {
-        Put {
-            taken: false,
-            ..self
-        }
-    }
-}
+/// The block's empty last packet, which was taken.
+pub const LAST: Put = Put { last: true, ..DATA };
 
 /// What comes in place of a response or an answer.
-#[derive(Clone, Copy, Debug, PartialEq, Eq)]
+#[derive(Clone, Copy)]
 pub enum Instead {
     Lost,
     Octets(&'static [u8]),
@@ -97,14 +80,15 @@ impl Instead {
 }
 
 impl<L: Link> TestLink<L> {
-    pub fn over(heap: Global, inner: L) -> TestLink<L> {
+    /// Over `inner`, with what the first set up comes to, if it is to come instead.
+    pub fn over(heap: Global, inner: L, set_up: Option<Instead>) -> TestLink<L> {
         TestLink {
             inner,
             puts: Vec::new(heap),
             setup: None,
             asked: Vec::new(heap),
             lost_put: None,
-            set_up: None,
+            set_up,
             next: None,
             transfer: None,
         }

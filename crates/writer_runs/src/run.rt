@@ -1,84 +1,68 @@
 //! A writer with the link and the buffers that its calls are lent.
+use crate::buffers::Buffers;
+use crate::link::TestLink;
 use chain::link::Link;
 use namenode::protocol::NamenodeProtocol;
 use proto::block::ExtendedBlock;
+use runs::command::{Command, Outcome};
 use std::alloc::{AllocError, Global};
 use std::mem;
-use writer::beat::Beat;
-use writer::finish::Finished;
+use writer::admit::Lens;
 use writer::heed::Heeded;
 use writer::opening::Opening;
-use writer::recover::Recovered;
 use writer::refusal::Refusal;
 use writer::state::Writer;
-use writer::write::Written;
-
-/// The four buffers.
-#[derive(Drop)]
-pub struct Buffers {
-    pub store: Vec<u8>,
-    pub frame: Vec<u8>,
-    pub request: Vec<u8>,
-    pub answer: Vec<u8>,
-}
 
 /// A writer, and what its calls are lent.
 #[derive(Drop)]
-pub struct Run<L> {
+pub struct Run<C> {
     pub writer: Writer,
-    pub link: L,
+    pub link: TestLink<C>,
     pub buffers: Buffers,
+    /// The buffers as they were at the last mark.
+    pub marked: Buffers,
+    // The run's own buffers while others are lent, and else those that were lent last.
+    own: Buffers,
 }
 
-/// So many octets, all of them 0x77: what a call writes can be told from what it leaves.
-pub fn octets(heap: Global, len: usize) -> Result<Vec<u8>, AllocError> {
-    Ok(vec![in heap; 0x77; len]?)
-}
-
-impl Buffers {
-    /// A store of so many octets, and the least frame buffer for packets of one chunk of four bytes.
-    pub fn new(heap: Global, store: usize) -> Result<Buffers, AllocError> {
-        Ok(Buffers {
-            store: octets(heap, store)?,
-            frame: octets(heap, 41)?,
-            request: octets(heap, 4096)?,
-            answer: octets(heap, 4096)?,
-        })
-    }
-
-    /// A copy of them, to compare them with later.
-    pub fn copy(&self) -> Result<Buffers, AllocError> {
-        Ok(Buffers {
-            store: self.store.clone()?,
-            frame: self.frame.clone()?,
-            request: self.request.clone()?,
-            answer: self.answer.clone()?,
-        })
-    }
-
-    /// Another store in place of this one, which is given back.
-    pub fn swap_store(&mut self, other: Vec<u8>) -> Vec<u8> {
-        mem::replace(&mut self.store, other)
-    }
-
-    pub fn same_as(&self, other: &Buffers) -> bool {
-        self.store.as_slice() == other.store.as_slice()
-            && self.frame.as_slice() == other.frame.as_slice()
-            && self.request.as_slice() == other.request.as_slice()
-            && self.answer.as_slice() == other.answer.as_slice()
+// Beside `call` of `runs`, which makes a call over a link and a namenode that mean what they say: those of the tests do not.
+fn call<L: Link, N: NamenodeProtocol>(
+    writer: &mut Writer,
+    link: &mut L,
+    namenode: &mut N,
+    store: &mut [u8],
+    frame: &mut [u8],
+    request: &mut [u8],
+    answer: &mut [u8],
+    command: Command<'_>,
+) -> Outcome {
+    match command {
+        Command::Write(bytes) => {
+            Outcome::Wrote(writer.write(link, store, frame, request, answer, bytes))
+        }
+        Command::Heed => Outcome::Heard(writer.heed(link, store, frame, request, answer)),
+        Command::Beat(time) => {
+            Outcome::Beaten(writer.beat(link, store, frame, request, answer, time))
+        }
+        Command::Finish => Outcome::Ended(writer.finish(link, store, frame, request, answer)),
+        Command::Recover(time) => Outcome::Recovered(writer.recover(
+            link, namenode, store, frame, request, answer, time,
+        )),
     }
 }
 
-impl<L: Link + Drop> Run<L> {
-    /// A block opened over this link with these buffers, and what the opening came to.
+impl<C: Link + Drop> Run<C> {
+    /// A block opened over this link with these buffers, and what the opening came to. The mark is before it.
     pub fn open(
         heap: Global,
         opening: Opening<'_>,
-        link: L,
+        link: TestLink<C>,
         buffers: Buffers,
-    ) -> Result<(Run<L>, Result<(), Refusal>), AllocError> {
+    ) -> Result<(Run<C>, Result<(), Refusal>), AllocError> {
         let mut link = link;
         let mut buffers = buffers;
+        let marked = buffers.copy()?;
+        let own = buffers.copy()?;
         let opened = Writer::open(
             heap,
             opening,
@@ -92,91 +76,74 @@ impl<L: Link + Drop> Run<L> {
             writer: opened.writer,
             link,
             buffers,
+            marked,
+            own,
         };
         Ok((run, opened.outcome))
     }
+}
 
-    pub fn write(&mut self, bytes: &[u8]) -> Result<Written, Refusal> {
-        let buffers = &mut self.buffers;
-        self.writer.write(
+impl<C: Link> Run<C> {
+    /// Makes a call.
+    pub fn call<N: NamenodeProtocol>(&mut self, namenode: &mut N, command: Command<'_>) -> Outcome {
+        call(
+            &mut self.writer,
             &mut self.link,
-            &mut buffers.store,
-            &mut buffers.frame,
-            &buffers.request,
-            &buffers.answer,
-            bytes,
-        )
-    }
-
-    pub fn heed(&mut self) -> Result<Heeded, Refusal> {
-        let buffers = &mut self.buffers;
-        self.writer.heed(
-            &mut self.link,
-            &buffers.store,
-            &buffers.frame,
-            &buffers.request,
-            &mut buffers.answer,
+            namenode,
+            &mut self.buffers.store,
+            &mut self.buffers.frame,
+            &mut self.buffers.request,
+            &mut self.buffers.answer,
+            command,
         )
     }
 
     /// Heeds answers until one that is no confirmation, or none, and tells what that was.
-    pub fn heed_all(&mut self) -> Result<Heeded, Refusal> {
+    pub fn heed_all<N: NamenodeProtocol>(&mut self, namenode: &mut N) -> Outcome {
         for _ in 0..128 {
-            match self.heed()? {
-                Heeded::Confirmed(_) | Heeded::HeartBeat => {}
-                heeded => return Ok(heeded),
+            match self.call(namenode, Command::Heed) {
+                Outcome::Heard(Ok(Heeded::Confirmed(_) | Heeded::HeartBeat)) => {}
+                outcome => return outcome,
             }
         }
-        Ok(Heeded::Nothing)
+        Outcome::Heard(Ok(Heeded::Nothing))
     }
 
-    pub fn beat(&mut self, time: u64) -> Result<Beat, Refusal> {
-        let buffers = &mut self.buffers;
-        self.writer.beat(
-            &mut self.link,
-            &buffers.store,
-            &mut buffers.frame,
-            &buffers.request,
-            &buffers.answer,
-            time,
-        )
+    /// From here on frames are noted anew, and the buffers are to stay.
+    pub fn mark(&mut self) -> Result<(), AllocError> {
+        self.link.puts.clear();
+        self.marked = self.buffers.copy()?;
+        Ok(())
     }
 
-    pub fn recover<N: NamenodeProtocol>(
-        &mut self,
-        namenode: &mut N,
-        time: u64,
-    ) -> Result<Recovered, Refusal> {
-        let buffers = &mut self.buffers;
-        self.writer.recover(
-            &mut self.link,
-            namenode,
-            &buffers.store,
-            &mut buffers.frame,
-            &mut buffers.request,
-            &mut buffers.answer,
-            time,
-        )
+    /// Copies of the run's buffers are lent in their place, with a store, a frame and an answer of these lengths.
+    pub fn lend(&mut self, store: usize, frame: usize, answer: usize) -> Result<(), AllocError> {
+        let lens = Lens {
+            store,
+            frame,
+            answer,
+            request: self.buffers.request.len(),
+        };
+        let lent = self.buffers.with_lens(lens)?;
+        self.own = mem::replace(&mut self.buffers, lent);
+        self.mark()
     }
 
-    pub fn finish(&mut self) -> Result<Finished, Refusal> {
-        let buffers = &mut self.buffers;
-        self.writer.finish(
-            &mut self.link,
-            &buffers.store,
-            &mut buffers.frame,
-            &buffers.request,
-            &buffers.answer,
-        )
+    /// The run's own buffers take the place of the lent ones. Whether nothing was put, and the lent ones are as they were lent.
+    pub fn take_back(&mut self) -> bool {
+        mem::swap(&mut self.buffers, &mut self.own);
+        self.link.puts.is_empty() && self.own.same_as(&self.marked)
     }
 
-    /// The closing record, or why there is none, and the link.
-    pub fn close(self) -> (Result<ExtendedBlock, Refusal>, L) {
+    /// The closing record, or why there is none, and the chain.
+    pub fn close(self) -> (Result<ExtendedBlock, Refusal>, C) {
         let Run {
             writer,
             link,
             buffers: _,
+            marked: _,
+            own: _,
         } = self;
-        (writer.close(), link)
+        (writer.close(), link.inner)
     }
 }

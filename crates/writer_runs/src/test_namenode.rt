@@ -1,8 +1,22 @@
-//! A namenode with nothing right but its stamps.
+//! What a test looks at of a namenode, and one with nothing right but its stamps.
 ghost use Rattle.std.specs.Prelude.{◌∷◌, []};
 
 use namenode::protocol::{NamenodeProtocol, Offered, Refused};
+use pool::entry::BlockEntry;
+use pool::memory::MemoryNamenode;
+use pool::spares::Spares;
 use proto::datanode::Datanode;
+
+/// A namenode whose entry a test can look at.
+pub trait HasEntry: NamenodeProtocol {
+    fn entry(&self) -> BlockEntry<'_>;
+}
+
+impl<S: Spares> HasEntry for MemoryNamenode<S> {
+    fn entry(&self) -> BlockEntry<'_> {
+        MemoryNamenode::entry(self)
+    }
+}
 
 /// A namenode that offers this one datanode, whoever is left, gives stamp 1002, and refuses each update. It means nothing of its own, so its
 /// acts say nothing: a test looks at what came.
@@ -62,5 +76,16 @@ impl NamenodeProtocol for TestNamenode {
         _nodes: &[Datanode],
     ) -> Result<(), Refused> {
         Err(Refused)
+    }
+}
+
+// The block as it was opened, on no datanode that was told of.
+impl HasEntry for TestNamenode {
+    fn entry(&self) -> BlockEntry<'_> {
+        BlockEntry {
+            stamp: 1001,
+            size: 0,
+            nodes: &[],
+        }
     }
 }

@@ -1,119 +1,151 @@
 //! A block that has bytes already: its first packet ends the chunk that was begun, and the offsets go on from there.
-use crate::ends::completes;
-use crate::link::{Instead, Put};
-use crate::outcomes::{replayed, taken};
-use crate::run::{Buffers, Run, octets};
-use crate::sample::opening;
-use crate::start::{house, on_bench};
-use spool::state::Spool;
-use std::alloc::Global;
-use std::process::Abort;
+use crate::buffers::LEAST;
+use crate::case::{CASE, Case, perform_all};
+use crate::end::End;
+use crate::field::Field;
+use crate::link::{DATA, Instead, LAST, Put};
+use crate::sample::LINK_LOST;
+use crate::step::{Look, Step};
 use std::test::Fail;
-use writer::cause::Cause;
+use writer::admit::Lens;
 use writer::heed::Heeded;
-use writer::opening::Opening;
-
-// Seven bytes more are written to a block that has `kept`: they go out in these packets, and the block is `all`.
-fn append(
-    rt: &impl Abort,
-    heap: Global,
-    kept: &[u8],
-    all: &[u8],
-    puts: &[Put],
-) -> Result<(), Fail> {
-    let initial_len = kept.len() as u64;
-    let len = all.len() as u64;
-    let block = Opening {
-        initial_len,
-        ..opening(2)
-    };
-    let mut run = on_bench(heap, block, kept, 20)?;
-    let setup = run.link.setup.ok_or("no set up")?;
-    assert_eq!(rt; setup.stage, 0);
-    assert_eq!(rt; setup.min_bytes, initial_len);
-    assert_eq!(rt; setup.max_bytes, initial_len);
-    assert_eq!(rt; run.write(b"abcdefg"), Ok(taken(7)));
-    run.finish()?;
-    let end = puts.len() as u64;
-    assert_eq!(rt; run.link.puts.pop(), Some(Put::last(len, end)));
-    assert!(rt; run.link.puts.as_slice() == puts);
-    assert_eq!(rt; run.heed_all(), Ok(Heeded::Complete(end)));
-    let (record, link) = run.close();
-    let record = record?;
-    assert_eq!(rt; record.num_bytes, len);
-    assert_eq!(rt; record.generation_stamp, 1001);
-    assert!(rt; link.inner.kept() == all);
-    Ok(())
-}
 
 // Ten bytes end within a chunk of four: the first packet has the two that are left of it. Eight bytes end with one.
+const FIRST_PACKETS: &[Case] = &[
+    Case {
+        fields: &[Field::InitialLen(10)],
+        kept: b"0123456789",
+        steps: &[
+            Step::Look(Look::Stage(0, 10, 10)),
+            Step::Write(b"abcdefg", 7),
+            Step::Finish,
+            Step::Look(Look::Puts(&[
+                Put {
+                    offset: 10,
+                    seqno: 0,
+                    len: 2,
+                    ..DATA
+                },
+                Put {
+                    offset: 12,
+                    seqno: 1,
+                    len: 4,
+                    ..DATA
+                },
+                Put {
+                    offset: 16,
+                    seqno: 2,
+                    len: 1,
+                    ..DATA
+                },
+                Put {
+                    offset: 17,
+                    seqno: 3,
+                    ..LAST
+                },
+            ])),
+            Step::HeedAll(Heeded::Complete(3)),
+        ],
+        end: End::Record(b"0123456789abcdefg", 1001),
+        ..CASE
+    },
+    Case {
+        fields: &[Field::InitialLen(8)],
+        kept: b"01234567",
+        steps: &[
+            Step::Look(Look::Stage(0, 8, 8)),
+            Step::Write(b"abcdefg", 7),
+            Step::Finish,
+            Step::Look(Look::Puts(&[
+                Put {
+                    offset: 8,
+                    seqno: 0,
+                    len: 4,
+                    ..DATA
+                },
+                Put {
+                    offset: 12,
+                    seqno: 1,
+                    len: 3,
+                    ..DATA
+                },
+                Put {
+                    offset: 15,
+                    seqno: 2,
+                    ..LAST
+                },
+            ])),
+            Step::HeedAll(Heeded::Complete(2)),
+        ],
+        end: End::Record(b"01234567abcdefg", 1001),
+        ..CASE
+    },
+];
+
 #[test]
 fn first_packet(rt: HostRuntime) -> Result<(), Fail> {
-    let heap = rt.alloc();
-    let within = [
-        Put::data(10, 0, 2),
-        Put::data(12, 1, 4),
-        Put::data(16, 2, 1),
-    ];
-    append(&rt, heap, b"0123456789", b"0123456789abcdefg", &within)?;
-    let between = [Put::data(8, 0, 4), Put::data(12, 1, 3)];
-    append(&rt, heap, b"01234567", b"01234567abcdefg", &between)
+    perform_all(&rt, rt.alloc(), FIRST_PACKETS)
 }
 
 // Packets of two chunks: the first one still has only what ends the chunk, and the others have both.
 #[test]
 fn two_chunks(rt: HostRuntime) -> Result<(), Fail> {
-    let heap = rt.alloc();
-    let block = Opening {
-        initial_len: 5,
-        packet_size: 49,
-        ..opening(1)
+    const TWO_CHUNKS: Case = Case {
+        nodes: 1,
+        fields: &[Field::InitialLen(5), Field::PacketSize(49)],
+        kept: b"01234",
+        lens: Lens {
+            store: 40,
+            frame: 49,
+            ..LEAST
+        },
+        steps: &[
+            Step::Write(b"abcdefghijklm", 13),
+            Step::Look(Look::Pending(2)),
+            Step::Look(Look::Store(b"abc\x77\x77\x77\x77\x77defghijklm")),
+            Step::Heed(Heeded::Confirmed(0)),
+            Step::Look(Look::Kept(b"01234abc")),
+            Step::Finish,
+            Step::HeedAll(Heeded::Complete(3)),
+        ],
+        end: End::Record(b"01234abcdefghijklm", 1001),
+        ..CASE
     };
-    let mut buffers = Buffers::new(heap, 40)?;
-    buffers.frame = octets(heap, 49)?;
-    let mut bytes = Vec::with_capacity(heap, 64)?;
-    bytes.extend_from_slice(b"01234")?;
-    let spool = Spool::over(heap, bytes, 1)?;
-    let (mut run, outcome) = Run::open(heap, block, spool, buffers)?;
-    assert_eq!(rt; outcome, Ok(()));
-    assert_eq!(rt; run.write(b"abcdefghijklm"), Ok(taken(13)));
-    assert_eq!(rt; run.link.pending(), 2);
-    assert!(rt;
-        run.buffers
-            .store
-            .starts_with(b"abc\x77\x77\x77\x77\x77defghijklm")
-    );
-    assert_eq!(rt; run.heed(), Ok(Heeded::Confirmed(0)));
-    assert!(rt; run.link.kept() == b"01234abc".as_slice());
-    run.finish()?;
-    assert_eq!(rt; run.heed_all(), Ok(Heeded::Complete(3)));
-    let (record, spool) = run.close();
-    assert_eq!(rt; record?.num_bytes, 18);
-    assert!(rt; spool.kept() == b"01234abcdefghijklm".as_slice());
-    Ok(())
+    TWO_CHUNKS.performs_on_spool(&rt, rt.alloc())
 }
 
 // An append that breaks at once keeps what the block had, and what is held begins behind it.
 #[test]
 fn recovery(rt: HostRuntime) -> Result<(), Fail> {
-    let heap = rt.alloc();
-    let mut namenode = house(heap)?;
-    let block = Opening {
-        initial_len: 10,
-        ..opening(2)
+    const RECOVERY: Case = Case {
+        fields: &[Field::InitialLen(10)],
+        kept: b"0123456789",
+        steps: &[
+            Step::Write(b"abcdefg", 7),
+            Step::Mark,
+            Step::OnNext(Instead::Lost),
+            Step::Heed(LINK_LOST),
+            Step::Recover(200, 1002, 2),
+            Step::Look(Look::Stage(3, 10, 17)),
+            Step::Look(Look::Puts(&[
+                Put {
+                    offset: 10,
+                    seqno: 0,
+                    len: 2,
+                    ..DATA
+                },
+                Put {
+                    offset: 12,
+                    seqno: 1,
+                    len: 4,
+                    ..DATA
+                },
+            ])),
+            Step::Finish,
+            Step::HeedAll(Heeded::Complete(3)),
+        ],
+        end: End::Complete(b"0123456789abcdefg", b"b"),
+        ..CASE
     };
-    let mut run = on_bench(heap, block, b"0123456789", 20)?;
-    run.write(b"abcdefg")?;
-    run.link.puts.clear();
-    run.link.on_next(Instead::Lost);
-    assert_eq!(rt; run.heed(), Ok(Heeded::Broken(Cause::Link)));
-    assert_eq!(rt; run.recover(&mut namenode, 200), Ok(replayed(1002, 2)));
-    let setup = run.link.setup.ok_or("no set up")?;
-    assert_eq!(rt;
-        (setup.stage, setup.min_bytes, setup.max_bytes),
-        (3, 10, 17)
-    );
-    assert!(rt; run.link.puts.as_slice() == [Put::data(10, 0, 2), Put::data(12, 1, 4)].as_slice());
-    run.finish()?;
-    completes(&rt, run, &namenode, b"0123456789abcdefg", b"b")
+    RECOVERY.performs(&rt, rt.alloc())
 }

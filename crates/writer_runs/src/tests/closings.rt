@@ -1,175 +1,201 @@
 //! The refusals that close a writer: answers with a wrong number, and recoveries that come to nothing. The store stays, and so do the
 //! bytes that the chain keeps.
-ghost use Rattle.std.specs.Prelude.{◌≤◌};
-
-use crate::link::{Instead, TestLink};
-use crate::run::Run;
-use crate::sample::{INFOS, TOKEN, opening, token};
-use crate::start::{house, on_bench};
+use crate::case::{CASE, Case, Namenodes, perform_all};
+use crate::end::End;
+use crate::link::Instead;
+use crate::sample::{B, DS_1, LINK_LOST, TOKEN};
+use crate::step::{Look, Step};
 use crate::test_namenode::TestNamenode;
-use bench::state::Bench;
-use namenode::protocol::{NamenodeProtocol, Offered};
+use namenode::protocol::Offered;
 use pipeline::reply::ReplyError;
-use pool::memory::House;
-use proto::token::Token;
-use std::alloc::Global;
-use std::process::Abort;
+use runs::command::Command;
 use std::test::Fail;
 use writer::heed::Heeded;
 use writer::refusal::Refusal;
 
-// A run on so many datanodes with a packet confirmed, one held and two bytes more, broken by that answer, or by the loss of one.
-fn broken(heap: Global, nodes: usize, by: Instead) -> Result<Run<TestLink<Bench>>, Fail>
-    requires { nodes ≤ 5 }
-{
-    let mut run = on_bench(heap, opening(nodes), b"", 20)?;
-    run.write(b"abcdefghij")?;
-    run.heed()?;
-    run.link.on_next(by);
-    match run.heed()? {
-        Heeded::Broken(_) => Ok(run),
-        _ => Err(Fail::new("the pipeline is not broken")),
-    }
-}
-
-// A recovery is refused with that number, closes the writer, and leaves the store and what the chain keeps. Tells why.
-fn recovery<N: NamenodeProtocol>(
-    rt: &impl Abort,
-    run: &mut Run<TestLink<Bench>>,
-    namenode: &mut N,
-    number: u8,
-) -> Result<Refusal, Fail> {
-    let store = run.buffers.store.clone()?;
-    let refusal = run
-        .recover(namenode, 200)
-        .err()
-        .ok_or("the recovery was not refused")?;
-    assert_eq!(rt; u8::from(refusal), number);
-    assert!(rt; run.buffers.store.as_slice() == store.as_slice());
-    assert!(rt; run.link.inner.kept() == b"abcd".as_slice());
-    assert_eq!(rt; run.recover(namenode, 200), Err(Refusal::Closed));
-    Ok(refusal)
+// The bytes written and their number, the answer that comes, the refusal of it and its number, and how many packets are held.
+macro_rules! answered {
+    ($bytes:literal, $len:literal, $answer:literal, $why:expr, $number:literal, $held:literal) => {
+        Case {
+            nodes: 1,
+            steps: &[
+                Step::Write($bytes, $len),
+                Step::Mark,
+                Step::OnNext(Instead::Octets($answer)),
+                Step::Refused(Command::Heed, $number, $why),
+                Step::Look(Look::Answer($answer)),
+                Step::Look(Look::SameStore),
+                Step::Refused(Command::Heed, 21, Refusal::Closed),
+            ],
+            end: End::Incomplete($held),
+            ..CASE
+        }
+    };
 }
 
 // An answer that passes, but has the number -2, or that of a packet which is not the first held one.
 #[test]
 fn answers(rt: HostRuntime) -> Result<(), Fail> {
-    let heap = rt.alloc();
-    let table = [
-        (
-            b"ab".as_slice(),
-            b"\x08\x03\x10\x00",
-            Refusal::UnknownSeqno,
-            9,
-            0,
+    const CASES: &[Case] = &[
+        answered!(b"ab", 2, b"\x08\x03\x10\x00", Refusal::UnknownSeqno, 9, 0),
+        answered!(b"ab", 2, b"\x08\x00\x10\x00", Refusal::Unexpected, 10, 0),
+        answered!(
+            b"abcdefgh",
+            8,
+            b"\x08\x02\x10\x00",
+            Refusal::Unexpected,
+            10,
+            2
         ),
-        (b"ab", b"\x08\x00\x10\x00", Refusal::Unexpected, 10, 0),
-        (b"abcdefgh", b"\x08\x02\x10\x00", Refusal::Unexpected, 10, 2),
-        (b"abcdefgh", b"\x08\x0a\x10\x00", Refusal::Unexpected, 10, 2),
+        answered!(
+            b"abcdefgh",
+            8,
+            b"\x08\x0a\x10\x00",
+            Refusal::Unexpected,
+            10,
+            2
+        ),
     ];
-    for (bytes, octets, why, number, held) in table {
-        let mut run = on_bench(heap, opening(1), b"", 20)?;
-        run.write(bytes)?;
-        let store = run.buffers.store.clone()?;
-        run.link.on_next(Instead::Octets(octets));
-        assert_eq!(rt; run.heed(), Err(why));
-        assert_eq!(rt; u8::from(why), number);
-        assert!(rt; run.buffers.answer.starts_with(octets));
-        assert!(rt; run.buffers.store.as_slice() == store.as_slice());
-        assert_eq!(rt; run.heed(), Err(Refusal::Closed));
-        assert!(rt; matches!(run.close().0, Err(Refusal::Incomplete(count)) if count == held));
-    }
-    Ok(())
+    perform_all(&rt, rt.alloc(), CASES)
 }
 
-// All datanodes failed, or one past the pipeline. Where both fit, the former counts. Neither the link nor the namenode is asked.
+// A packet is confirmed, one held, and there are two bytes more. An answer breaks the pipeline on so many datanodes, and the recovery is
+// refused. Neither the link nor the namenode is asked, and all buffers stay.
+macro_rules! unasked {
+    ($nodes:literal, $answer:expr, $namenode:expr, $number:literal, $why:expr) => {
+        Case {
+            nodes: $nodes,
+            namenode: $namenode,
+            steps: &[
+                Step::Write(b"abcdefghij", 10),
+                Step::Heed(Heeded::Confirmed(0)),
+                Step::OnNext($answer),
+                Step::Breaks,
+                Step::Mark,
+                Step::Refused(Command::Recover(200), $number, $why),
+                Step::Refused(Command::Recover(200), 21, Refusal::Closed),
+                Step::Look(Look::Same),
+                Step::Look(Look::Kept(b"abcd")),
+                Step::Look(Look::Asked(b"a")),
+                Step::Look(Look::On(b"")),
+            ],
+            ..CASE
+        }
+    };
+}
+
+// All datanodes failed.
+macro_rules! all_failed {
+    ($nodes:literal, $answer:expr) => {
+        unasked!($nodes, $answer, Namenodes::House(1001, true), 11, Refusal::AllFailed)
+    };
+}
+
+// One past the pipeline failed.
+macro_rules! past_pipeline {
+    ($nodes:literal, $answer:expr) => {
+        unasked!($nodes, $answer, Namenodes::House(1001, true), 12, Refusal::PastPipeline)
+    };
+}
+
+// Where both fit, the former counts.
 #[test]
 fn positions(rt: HostRuntime) -> Result<(), Fail> {
-    let heap = rt.alloc();
-    let table = [
-        (1, Instead::Lost, 11),
-        (1, Instead::Octets(b"\xff"), 11),
-        (2, Instead::Octets(b"\x08\x02\x10\x01\x10\x01"), 11),
-        (2, Instead::Octets(b"\x08\x02\x10\x01\x10\x00\x10\x01"), 11),
-        (2, Instead::Octets(b"\x08\x02\x10\x00\x10\x00\x10\x01"), 12),
+    const CASES: &[Case] = &[
+        all_failed!(1, Instead::Lost),
+        all_failed!(1, Instead::Octets(b"\xff")),
+        all_failed!(2, Instead::Octets(b"\x08\x02\x10\x01\x10\x01")),
+        all_failed!(2, Instead::Octets(b"\x08\x02\x10\x01\x10\x00\x10\x01")),
+        past_pipeline!(2, Instead::Octets(b"\x08\x02\x10\x00\x10\x00\x10\x01")),
     ];
-    for (nodes, by, number) in table {
-        let mut namenode = house(heap)?;
-        let mut run = broken(heap, nodes, by)?;
-        let before = run.buffers.copy()?;
-        recovery(&rt, &mut run, &mut namenode, number)?;
-        assert!(rt; run.buffers.same_as(&before));
-        assert!(rt; run.link.asked.as_slice() == b"a".as_slice());
-        assert!(rt; namenode.entry().nodes.is_empty());
-    }
-    Ok(())
-}
-
-// A namenode at that stamp with that token gives no stamp. The link is not asked.
-fn no_stamp(rt: &impl Abort, heap: Global, stamp: u64, token: Token) -> Result<(), Fail> {
-    let mut namenode = House::new(heap, stamp, 0, &[], token)?;
-    let mut run = broken(heap, 2, Instead::Lost)?;
-    let before = run.buffers.copy()?;
-    let refusal = recovery(rt, &mut run, &mut namenode, 14)?;
-    assert_eq!(rt; refusal, Refusal::Stamp);
-    assert!(rt; run.buffers.same_as(&before));
-    assert!(rt; run.link.asked.as_slice() == b"a".as_slice());
-    assert!(rt; namenode.entry().nodes.is_empty());
-    Ok(())
+    perform_all(&rt, rt.alloc(), CASES)
 }
 
 // There is no stamp after the last one, and a token may be out of form.
 #[test]
 fn stamps(rt: HostRuntime) -> Result<(), Fail> {
-    let heap = rt.alloc();
-    no_stamp(&rt, heap, u64::MAX, token()?)?;
-    no_stamp(&rt, heap, 1001, Token::none())
+    const CASES: &[Case] = &[
+        unasked!(
+            2,
+            Instead::Lost,
+            Namenodes::House(u64::MAX, true),
+            14,
+            Refusal::Stamp
+        ),
+        unasked!(
+            2,
+            Instead::Lost,
+            Namenodes::House(1001, false),
+            14,
+            Refusal::Stamp
+        ),
+    ];
+    perform_all(&rt, rt.alloc(), CASES)
 }
 
-// A set up that is lost, cannot be read, has another status, or has none. No packet is put again, and the namenode is not told.
+// The recovery's set up comes to that. No packet is put again, and the namenode is not told.
+macro_rules! untold {
+    ($set_up:expr, $why:expr) => {
+        Case {
+            steps: &[
+                Step::Write(b"abcdefghij", 10),
+                Step::Heed(Heeded::Confirmed(0)),
+                Step::OnNext(Instead::Lost),
+                Step::Heed(LINK_LOST),
+                Step::Mark,
+                Step::OnSetUp($set_up),
+                Step::Refused(Command::Recover(200), 15, Refusal::Recovery($why)),
+                Step::Refused(Command::Recover(200), 21, Refusal::Closed),
+                Step::Look(Look::SameStore),
+                Step::Look(Look::Kept(b"abcd")),
+                Step::Look(Look::Request(&[0, 28, 80])),
+                Step::Look(Look::Asked(b"ab")),
+                Step::Look(Look::PutCount(0)),
+                Step::Look(Look::On(b"")),
+            ],
+            ..CASE
+        }
+    };
+}
+
+// A set up that is lost, cannot be read, has another status, or has none.
 #[test]
 fn set_ups(rt: HostRuntime) -> Result<(), Fail> {
-    let heap = rt.alloc();
-    let table = [
-        (Instead::Lost, ReplyError::Lost),
-        (Instead::Octets(b"\x08"), ReplyError::Undecodable),
-        (Instead::Octets(b"\x08\x01"), ReplyError::Status),
-        (Instead::Octets(b""), ReplyError::Status),
+    const CASES: &[Case] = &[
+        untold!(Instead::Lost, ReplyError::Lost),
+        untold!(Instead::Octets(b"\x08"), ReplyError::Undecodable),
+        untold!(Instead::Octets(b"\x08\x01"), ReplyError::Status),
+        untold!(Instead::Octets(b""), ReplyError::Status),
     ];
-    for (instead, why) in table {
-        let mut namenode = house(heap)?;
-        let mut run = broken(heap, 2, Instead::Lost)?;
-        let puts = run.link.puts.len();
-        run.link.on_set_up(instead);
-        assert_eq!(rt;
-            recovery(&rt, &mut run, &mut namenode, 15)?,
-            Refusal::Recovery(why)
-        );
-        assert!(rt; run.buffers.request.starts_with(&[0, 28, 80]));
-        assert!(rt; run.link.asked.as_slice() == b"ab".as_slice());
-        assert_eq!(rt; run.link.puts.len(), puts);
-        assert!(rt; namenode.entry().nodes.is_empty());
-    }
-    Ok(())
+    perform_all(&rt, rt.alloc(), CASES)
 }
 
 // The update is refused after the packet that was held is put again.
 #[test]
 fn update(rt: HostRuntime) -> Result<(), Fail> {
-    let heap = rt.alloc();
-    let row = Offered {
-        info: INFOS[1],
-        storage_id: b"DS-1",
-        storage_type: 1,
+    const UPDATE: Case = Case {
+        namenode: Namenodes::Test(TestNamenode {
+            row: Offered {
+                info: B,
+                storage_id: DS_1,
+                storage_type: 1,
+            },
+            token: TOKEN,
+        }),
+        steps: &[
+            Step::Write(b"abcdefghij", 10),
+            Step::Heed(Heeded::Confirmed(0)),
+            Step::OnNext(Instead::Lost),
+            Step::Heed(LINK_LOST),
+            Step::Mark,
+            Step::Refused(Command::Recover(200), 16, Refusal::Update),
+            Step::Refused(Command::Recover(200), 21, Refusal::Closed),
+            Step::Look(Look::SameStore),
+            Step::Look(Look::Kept(b"abcd")),
+            Step::Look(Look::PutCount(1)),
+        ],
+        end: End::Incomplete(1),
+        ..CASE
     };
-    let mut namenode = TestNamenode { row, token: TOKEN };
-    let mut run = broken(heap, 2, Instead::Lost)?;
-    let puts = run.link.puts.len();
-    assert_eq!(rt;
-        recovery(&rt, &mut run, &mut namenode, 16)?,
-        Refusal::Update
-    );
-    assert_eq!(rt; run.link.puts.len(), puts + 1);
-    assert!(rt; matches!(run.close().0, Err(Refusal::Incomplete(1))));
-    Ok(())
+    UPDATE.performs(&rt, rt.alloc())
 }

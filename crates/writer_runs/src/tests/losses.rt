@@ -1,128 +1,164 @@
 //! Frames and answers that are lost, or that are not what they should be, and the block's end after the recovery.
-use crate::ends::{completes, is_on};
+use crate::buffers::SEVEN_SLOTS;
+use crate::case::{CASE, Case, perform_all};
+use crate::end::End;
 use crate::link::Instead;
-use crate::outcomes::{FINISH_LOST, replay_lost, replayed, taken, taken_and_lost};
-use crate::sample::opening;
-use crate::start::{house, on_bench};
+use crate::sample::{LINK_LOST, SECOND_FAILED, THIRD_FAILED};
+use crate::step::{Look, Step};
+use runs::command::Command;
 use std::test::Fail;
 use wire::field::{DecodeError, Fault};
 use writer::cause::Cause;
-use writer::finish::Finished;
 use writer::heed::Heeded;
 use writer::refusal::Refusal;
+
+// How many frames are taken before the one that is lost, how many packets are held then, how many bytes are taken, and which are left.
+macro_rules! lost_in_a_write {
+    ($before:literal, $held:literal, $taken:literal, $rest:literal, $left:literal) => {
+        Case {
+            lens: SEVEN_SLOTS,
+            steps: &[
+                Step::LosePut($before),
+                Step::WriteLost(b"abcdefghijklmn", $taken),
+                Step::Look(Look::Pending($before)),
+                Step::Refused(Command::Write($rest), 22, Refusal::Broken),
+                Step::Recover(200, 1002, $held),
+                Step::Write($rest, $left),
+                Step::Finish,
+                Step::HeedAll(Heeded::Complete(4)),
+            ],
+            end: End::Complete(b"abcdefghijklmn", b"b"),
+            ..CASE
+        }
+    };
+}
 
 // The first, second or third frame of a write is lost: the bytes of its packet count as taken, and no more are.
 #[test]
 fn in_a_write(rt: HostRuntime) -> Result<(), Fail> {
-    let heap = rt.alloc();
-    let bytes = b"abcdefghijklmn";
-    // How many frames are taken before the one that is lost, how many packets are held then, and what is left to be written.
-    let table = [
-        (0, 1, 4, b"efghijklmn".as_slice()),
-        (1, 2, 8, b"ijklmn"),
-        (2, 3, 12, b"mn"),
+    const CASES: &[Case] = &[
+        lost_in_a_write!(0, 1, 4, b"efghijklmn", 10),
+        lost_in_a_write!(1, 2, 8, b"ijklmn", 6),
+        lost_in_a_write!(2, 3, 12, b"mn", 2),
     ];
-    for (before, held, bytes_taken, rest) in table {
-        let mut namenode = house(heap)?;
-        let mut run = on_bench(heap, opening(2), b"", 28)?;
-        run.link.lose_put_after(before);
-        assert_eq!(rt; run.write(bytes), Ok(taken_and_lost(bytes_taken)));
-        assert_eq!(rt; run.link.inner.pending(), before);
-        assert_eq!(rt; run.write(rest), Err(Refusal::Broken));
-        assert_eq!(rt; run.recover(&mut namenode, 200), Ok(replayed(1002, held)));
-        assert_eq!(rt; run.write(rest), Ok(taken(rest.len())));
-        run.finish()?;
-        completes(&rt, run, &namenode, bytes, b"b")?;
-    }
-    Ok(())
+    perform_all(&rt, rt.alloc(), CASES)
 }
 
-// Of the two frames that end a block the first or the second is lost, or both packets are held and the first is lost when they are put again.
+// How many of the two frames are taken before the one that is lost.
+macro_rules! lost_in_a_finish {
+    ($before:literal) => {
+        Case {
+            nodes: 3,
+            lens: SEVEN_SLOTS,
+            steps: &[
+                Step::Write(b"ab", 2),
+                Step::LosePut($before),
+                Step::FinishLost,
+                Step::Look(Look::Pending($before)),
+                Step::Refused(Command::Finish, 22, Refusal::Broken),
+                Step::LosePut(0),
+                Step::RecoverLost(200, 1002, 0),
+                Step::Recover(200, 1003, 2),
+                Step::Refused(Command::Finish, 23, Refusal::Finished),
+                Step::HeedAll(Heeded::Complete(1)),
+            ],
+            end: End::Complete(b"ab", b"c"),
+            ..CASE
+        }
+    };
+}
+
+// Of the two frames that end a block the first or the second is lost, and both packets are held; then the first is lost when they are put
+// again.
 #[test]
 fn in_a_finish(rt: HostRuntime) -> Result<(), Fail> {
-    let heap = rt.alloc();
-    for before in [0, 1] {
-        let mut namenode = house(heap)?;
-        let mut run = on_bench(heap, opening(3), b"", 28)?;
-        run.write(b"ab")?;
-        run.link.lose_put_after(before);
-        assert_eq!(rt; run.finish(), Ok(FINISH_LOST));
-        assert_eq!(rt; run.link.inner.pending(), before);
-        assert_eq!(rt; run.finish(), Err(Refusal::Broken));
-        run.link.lose_put_after(0);
-        assert_eq!(rt; run.recover(&mut namenode, 200), Ok(replay_lost(1002, 0)));
-        assert_eq!(rt; run.recover(&mut namenode, 200), Ok(replayed(1003, 2)));
-        assert_eq!(rt; run.finish(), Err(Refusal::Finished));
-        completes(&rt, run, &namenode, b"ab", b"c")?;
-    }
-    Ok(())
+    const CASES: &[Case] = &[lost_in_a_finish!(0), lost_in_a_finish!(1)];
+    perform_all(&rt, rt.alloc(), CASES)
+}
+
+// How many of the held packets are put again before the one that is lost.
+macro_rules! lost_in_a_replay {
+    ($before:literal) => {
+        Case {
+            nodes: 3,
+            lens: SEVEN_SLOTS,
+            steps: &[
+                Step::Write(b"abcdefghijklmn", 14),
+                Step::OnNext(Instead::Lost),
+                Step::Heed(LINK_LOST),
+                Step::LosePut($before),
+                Step::RecoverLost(200, 1002, $before),
+                Step::Look(Look::Pending($before)),
+                Step::Look(Look::Entry(1002, 14)),
+                Step::Look(Look::On(b"bc")),
+                Step::Refused(Command::Heed, 22, Refusal::Broken),
+                Step::Recover(200, 1003, 3),
+                Step::Finish,
+                Step::HeedAll(Heeded::Complete(4)),
+            ],
+            end: End::Complete(b"abcdefghijklmn", b"c"),
+            ..CASE
+        }
+    };
 }
 
 // A frame is lost while the held packets are put again: those before it are on the new pipeline, all are still held, and the namenode knows
 // of that pipeline. The first datanode of it has failed then.
 #[test]
 fn in_a_replay(rt: HostRuntime) -> Result<(), Fail> {
-    let heap = rt.alloc();
-    for before in [0, 1, 2] {
-        let mut namenode = house(heap)?;
-        let mut run = on_bench(heap, opening(3), b"", 28)?;
-        run.write(b"abcdefghijklmn")?;
-        run.link.on_next(Instead::Lost);
-        assert_eq!(rt; run.heed(), Ok(Heeded::Broken(Cause::Link)));
-        run.link.lose_put_after(before);
-        assert_eq!(rt;
-            run.recover(&mut namenode, 200),
-            Ok(replay_lost(1002, before))
-        );
-        assert_eq!(rt; run.link.inner.pending(), before);
-        assert_eq!(rt; (namenode.entry().stamp, namenode.entry().size), (1002, 14));
-        assert!(rt; is_on(namenode.entry(), b"bc"));
-        assert_eq!(rt; run.heed(), Err(Refusal::Broken));
-        assert_eq!(rt; run.recover(&mut namenode, 200), Ok(replayed(1003, 3)));
-        run.finish()?;
-        completes(&rt, run, &namenode, b"abcdefghijklmn", b"c")?;
-    }
-    Ok(())
+    const CASES: &[Case] = &[
+        lost_in_a_replay!(0),
+        lost_in_a_replay!(1),
+        lost_in_a_replay!(2),
+    ];
+    perform_all(&rt, rt.alloc(), CASES)
 }
 
-// What comes in place of an answer, and whom it counts against: the first datanode, unless the replies name another. With nothing and with a
-// lost link the answer's buffer stays.
+// An answer that ends within its second field.
+const CUT: Heeded = Heeded::Broken(Cause::Decoding(DecodeError {
+    place: 2,
+    fault: Fault::End,
+}));
+
+// What comes in place of an answer, what that is heeded as, how the buffers are then, and the datanodes that are left.
+macro_rules! lost_at_a_heed {
+    ($instead:expr, $heeded:expr, $look:expr, $ips:literal) => {
+        Case {
+            nodes: 3,
+            lens: SEVEN_SLOTS,
+            steps: &[
+                Step::Write(b"abcdef", 6),
+                Step::Mark,
+                Step::OnNext($instead),
+                Step::Heed($heeded),
+                Step::Look($look),
+                Step::Recover(200, 1002, 1),
+                Step::Write(b"gh", 2),
+                Step::Finish,
+                Step::HeedAll(Heeded::Complete(2)),
+            ],
+            end: End::Complete(b"abcdefgh", $ips),
+            ..CASE
+        }
+    };
+}
+
+// An answer that comes in place of the chain's, and stands in its buffer then.
+macro_rules! answered {
+    ($answer:literal, $heeded:expr, $ips:literal) => {
+        lost_at_a_heed!(Instead::Octets($answer), $heeded, Look::Answer($answer), $ips)
+    };
+}
+
+// Whom an answer counts against that is lost or is not what it should be: the first datanode, unless the replies name another. With a lost
+// link the answer's buffer stays.
 #[test]
 fn at_a_heed(rt: HostRuntime) -> Result<(), Fail> {
-    let heap = rt.alloc();
-    let ends = Cause::Decoding(DecodeError {
-        place: 2,
-        fault: Fault::End,
-    });
-    let table = [
-        (Instead::Lost, Some(Cause::Link), b"bc".as_slice()),
-        (Instead::Octets(b"\x08\x00\x10"), Some(ends), b"bc"),
-        (Instead::Octets(b"\x08\x00\x10\x00\x10\x01"), None, b"ac"),
-        (
-            Instead::Octets(b"\x08\x03\x10\x00\x10\x00\x10\x0d"),
-            None,
-            b"ab",
-        ),
+    const CASES: &[Case] = &[
+        lost_at_a_heed!(Instead::Lost, LINK_LOST, Look::Same, b"bc"),
+        answered!(b"\x08\x00\x10", CUT, b"bc"),
+        answered!(b"\x08\x00\x10\x00\x10\x01", SECOND_FAILED, b"ac"),
+        answered!(b"\x08\x03\x10\x00\x10\x00\x10\x0d", THIRD_FAILED, b"ab"),
     ];
-    for (instead, cause, ips) in table {
-        let mut namenode = house(heap)?;
-        let mut run = on_bench(heap, opening(3), b"", 28)?;
-        run.write(b"abcdef")?;
-        let before = run.buffers.copy()?;
-        run.link.on_next(instead);
-        let heeded = run.heed()?;
-        match cause {
-            Some(cause) => assert_eq!(rt; heeded, Heeded::Broken(cause)),
-            None => assert!(rt; matches!(heeded, Heeded::Broken(Cause::Replies(_)))),
-        }
-        match instead {
-            Instead::Lost => assert!(rt; run.buffers.same_as(&before)),
-            Instead::Octets(octets) => assert!(rt; run.buffers.answer.starts_with(octets)),
-        }
-        run.recover(&mut namenode, 200)?;
-        run.write(b"gh")?;
-        run.finish()?;
-        completes(&rt, run, &namenode, b"abcdefgh", ips)?;
-    }
-    Ok(())
+    perform_all(&rt, rt.alloc(), CASES)
 }

@@ -1,201 +1,217 @@
 //! Datanodes that failed, and what comes in their places: none, or one of the namenode's list.
-use crate::ends::completes;
-use crate::link::{Instead, TestLink};
-use crate::outcomes::replayed;
-use crate::run::Run;
-use crate::sample::{INFOS, TOKEN, always, node, opening, token};
-use crate::start::{house, on_bench};
+use crate::case::{CASE, Case, Namenodes, perform_all};
+use crate::end::End;
+use crate::field::Field;
+use crate::link::Instead;
+use crate::sample::{A, D, DS_1, LINK_LOST, SECOND_FAILED, TOKEN};
+use crate::step::{Look, Step};
 use crate::test_namenode::TestNamenode;
-use bench::state::Bench;
-use namenode::protocol::{NamenodeProtocol, Offered};
+use ack::tally::FailedNodes;
+use namenode::protocol::Offered;
 use pipeline::add_datanode::NoDatanode;
-use pool::memory::Pool;
-use proto::token::Token;
-use replace::datanode::{Policy, ReplaceDatanodeOnFailure};
-use std::alloc::Global;
-use std::process::Abort;
+use replace::datanode::Policy;
+use runs::command::Command;
 use std::test::Fail;
+use writer::cause::Cause;
 use writer::heed::Heeded;
-use writer::opening::Opening;
-use writer::recover::Recovered;
 use writer::refusal::Refusal;
 
-// A namenode that has b and d to spare.
-fn pool(heap: Global, token: Token) -> Result<Pool, Fail> {
-    let spares = [node(INFOS[1])?, node(INFOS[3])?];
-    Ok(Pool::new(heap, 1001, 0, &[], token, &spares)?)
-}
+// Two packets are held and two bytes more.
+const WRITTEN: Step = Step::Write(b"abcdefghij", 10);
 
-// A run on a, b and c with two packets held and two bytes more, of which b has failed.
-fn without_b(
-    heap: Global,
-    replace: ReplaceDatanodeOnFailure,
-) -> Result<Run<TestLink<Bench>>, Fail> {
-    let block = Opening {
-        replace,
-        ..opening(3)
-    };
-    let mut run = on_bench(heap, block, b"", 20)?;
-    run.write(b"abcdefghij")?;
-    run.link
-        .on_next(Instead::Octets(b"\x08\x00\x10\x00\x10\x01\x10\x00"));
-    match run.heed()? {
-        Heeded::Broken(_) => Ok(run),
-        _ => Err(Fail::new("the pipeline is not broken")),
-    }
-}
+// Of a, b and c the second one fails.
+const B_FAILS: Step = Step::OnNext(Instead::Octets(b"\x08\x00\x10\x00\x10\x01\x10\x00"));
+
+// A run on a, b and c, with a new datanode for each one that is gone, or none where there is none to have.
+const BEST_EFFORT: Case = Case {
+    nodes: 3,
+    fields: &[Field::Replace(Policy::Always, true)],
+    ..CASE
+};
+
+// The same, where the recovery fails if there is none to have.
+const STRICT: Case = Case {
+    fields: &[Field::Replace(Policy::Always, false)],
+    ..BEST_EFFORT
+};
 
 // The positions are those of the pipeline that failed: with a, c and e gone, b and d are left.
 #[test]
 fn three_at_once(rt: HostRuntime) -> Result<(), Fail> {
-    let heap = rt.alloc();
-    let mut namenode = house(heap)?;
-    let mut run = on_bench(heap, opening(5), b"", 20)?;
-    run.write(b"abcdefghij")?;
-    run.link.on_next(Instead::Octets(b"\x08\x00\x10\x01\x10\x00\x10\x05\x10\x00\x10\x01"));
-    let Heeded::Broken(cause) = run.heed()? else {
-        return Err(Fail::new("the pipeline is not broken"));
+    const THREE_AT_ONCE: Case = Case {
+        nodes: 5,
+        steps: &[
+            WRITTEN,
+            Step::OnNext(Instead::Octets(b"\x08\x00\x10\x01\x10\x00\x10\x05\x10\x00\x10\x01")),
+            Step::Heed(Heeded::Broken(Cause::Replies(FailedNodes {
+                positions: [true, false, true, false, true, false, false, false],
+                count: 3,
+                highest: 4,
+            }))),
+            Step::Recover(200, 1002, 2),
+            Step::Look(Look::Asked(b"ab")),
+            Step::Finish,
+            Step::HeedAll(Heeded::Complete(3)),
+        ],
+        end: End::Complete(b"abcdefghij", b"bd"),
+        ..CASE
     };
-    let failed = cause.failed_nodes();
-    assert_eq!(rt;
-        failed.positions,
-        [true, false, true, false, true, false, false, false]
-    );
-    assert_eq!(rt; (failed.count, failed.highest), (3, 4));
-    assert_eq!(rt; run.recover(&mut namenode, 200), Ok(replayed(1002, 2)));
-    assert!(rt; run.link.asked.as_slice() == b"ab".as_slice());
-    run.finish()?;
-    completes(&rt, run, &namenode, b"abcdefghij", b"bd")
+    THREE_AT_ONCE.performs(&rt, rt.alloc())
 }
 
 // The spare b was in the pipeline, so d is the new datanode. It stands behind a and c, and c copies the block to it.
 #[test]
 fn from_the_pool(rt: HostRuntime) -> Result<(), Fail> {
-    let heap = rt.alloc();
-    let mut namenode = pool(heap, token()?)?;
-    let mut run = without_b(heap, always(false))?;
-    let recovered = Recovered {
-        choice: Some((2, 1)),
-        stamp: 1002,
-        replayed: 2,
-        put_lost: false,
+    const FROM_THE_POOL: Case = Case {
+        namenode: Namenodes::Pool(true),
+        steps: &[
+            WRITTEN,
+            B_FAILS,
+            Step::Heed(SECOND_FAILED),
+            Step::Replace(200, (2, 1), 1002, 2),
+            Step::Look(Look::Asked(b"aca")),
+            Step::Look(Look::Entry(1002, 10)),
+            Step::Write(b"kl", 2),
+            Step::Finish,
+            Step::HeedAll(Heeded::Complete(3)),
+        ],
+        end: End::Complete(b"abcdefghijkl", b"acd"),
+        ..STRICT
     };
-    assert_eq!(rt; run.recover(&mut namenode, 200), Ok(recovered));
-    assert!(rt; run.link.asked.as_slice() == b"aca".as_slice());
-    assert_eq!(rt; namenode.entry().size, 10);
-    run.write(b"kl")?;
-    run.finish()?;
-    completes(&rt, run, &namenode, b"abcdefghijkl", b"acd")
+    FROM_THE_POOL.performs(&rt, rt.alloc())
 }
 
 // The default policy replaces where half of the datanodes or fewer are left: of three, one.
 #[test]
 fn default_policy(rt: HostRuntime) -> Result<(), Fail> {
-    let heap = rt.alloc();
-    let by_default = ReplaceDatanodeOnFailure::new(Policy::Default, false);
-    let mut namenode = pool(heap, token()?)?;
-    let mut run = without_b(heap, by_default)?;
-    assert_eq!(rt; run.recover(&mut namenode, 200), Ok(replayed(1002, 2)));
-    run.link.on_next(Instead::Lost);
-    run.heed()?;
-    let added = Recovered {
-        choice: Some((1, 0)),
-        stamp: 1003,
-        replayed: 2,
-        put_lost: false,
+    const BY_DEFAULT: Case = Case {
+        fields: &[Field::Replace(Policy::Default, false)],
+        namenode: Namenodes::Pool(true),
+        steps: &[
+            WRITTEN,
+            B_FAILS,
+            Step::Heed(SECOND_FAILED),
+            Step::Recover(200, 1002, 2),
+            Step::OnNext(Instead::Lost),
+            Step::Heed(LINK_LOST),
+            Step::Replace(200, (1, 0), 1003, 2),
+            Step::Finish,
+            Step::HeedAll(Heeded::Complete(3)),
+        ],
+        end: End::Complete(b"abcdefghij", b"cb"),
+        ..STRICT
     };
-    assert_eq!(rt; run.recover(&mut namenode, 200), Ok(added));
-    run.finish()?;
-    completes(&rt, run, &namenode, b"abcdefghij", b"cb")
+    BY_DEFAULT.performs(&rt, rt.alloc())
 }
 
-// There is no datanode to have, or it gets no copy: best effort goes on with those that are left.
+// There is no datanode to have.
+const NO_SPARE: Case = Case {
+    steps: &[
+        WRITTEN,
+        B_FAILS,
+        Step::Heed(SECOND_FAILED),
+        Step::Recover(200, 1002, 2),
+        Step::Finish,
+        Step::HeedAll(Heeded::Complete(3)),
+    ],
+    end: End::Complete(b"abcdefghij", b"ac"),
+    ..BEST_EFFORT
+};
+
+// There is one, and it gets no copy.
+const COPY_LOST: Case = Case {
+    namenode: Namenodes::Pool(true),
+    steps: &[
+        WRITTEN,
+        B_FAILS,
+        Step::Heed(SECOND_FAILED),
+        Step::OnTransfer(Instead::Lost),
+        Step::Recover(200, 1002, 2),
+        Step::Look(Look::Asked(b"aca")),
+        Step::Finish,
+        Step::HeedAll(Heeded::Complete(3)),
+    ],
+    ..NO_SPARE
+};
+
+// Best effort goes on with those that are left.
 #[test]
 fn best_effort(rt: HostRuntime) -> Result<(), Fail> {
-    let heap = rt.alloc();
-    let recovered = replayed(1002, 2);
-    let mut namenode = house(heap)?;
-    let mut run = without_b(heap, always(true))?;
-    assert_eq!(rt; run.recover(&mut namenode, 200), Ok(recovered));
-    run.finish()?;
-    completes(&rt, run, &namenode, b"abcdefghij", b"ac")?;
-    let mut namenode = pool(heap, token()?)?;
-    let mut run = without_b(heap, always(true))?;
-    run.link.on_transfer(Instead::Lost);
-    assert_eq!(rt; run.recover(&mut namenode, 200), Ok(recovered));
-    assert!(rt; run.link.asked.as_slice() == b"aca".as_slice());
-    run.finish()?;
-    completes(&rt, run, &namenode, b"abcdefghij", b"ac")
+    perform_all(&rt, rt.alloc(), &[NO_SPARE, COPY_LOST])
 }
 
 // Without best effort the recovery is refused with that cause, and the writer is closed. No packet is put again.
-fn fails<N: NamenodeProtocol>(
-    rt: &impl Abort,
-    heap: Global,
-    namenode: &mut N,
-    transfer: Option<Instead>,
-    why: NoDatanode,
-) -> Result<(), Fail> {
-    let mut run = without_b(heap, always(false))?;
-    let before = run.buffers.copy()?;
-    let puts = run.link.puts.len();
-    if let Some(instead) = transfer {
-        run.link.on_transfer(instead);
-    }
-    let refusal = run
-        .recover(namenode, 200)
-        .err()
-        .ok_or("the recovery was not refused")?;
-    assert_eq!(rt; refusal, Refusal::Replacement(why));
-    assert_eq!(rt; u8::from(refusal), 13);
-    assert_eq!(rt; run.link.puts.len(), puts);
-    assert!(rt; run.buffers.store.as_slice() == before.store.as_slice());
-    assert!(rt; run.buffers.frame.as_slice() == before.frame.as_slice());
-    assert_eq!(rt; run.write(b"k"), Err(Refusal::Closed));
-    Ok(())
+macro_rules! fails {
+    ($namenode:expr, $before:expr, $why:expr) => {
+        Case {
+            namenode: $namenode,
+            steps: &[
+                WRITTEN,
+                B_FAILS,
+                Step::Heed(SECOND_FAILED),
+                Step::Mark,
+                $before,
+                Step::Refused(Command::Recover(200), 13, Refusal::Replacement($why)),
+                Step::Look(Look::PutCount(0)),
+                Step::Look(Look::SameStore),
+                Step::Look(Look::SameFrame),
+                Step::Refused(Command::Write(b"k"), 21, Refusal::Closed),
+            ],
+            ..STRICT
+        }
+    };
+}
+
+// The namenode gives no datanode.
+macro_rules! no_datanode {
+    ($namenode:expr, $why:expr) => {
+        fails!($namenode, Step::Mark, $why)
+    };
+}
+
+// A namenode that offers one datanode alone, on a storage of that type.
+macro_rules! offers {
+    ($info:expr, $storage_type:literal, $token:expr) => {
+        Namenodes::Test(TestNamenode {
+            row: Offered {
+                info: $info,
+                storage_id: DS_1,
+                storage_type: $storage_type,
+            },
+            token: $token,
+        })
+    };
 }
 
 #[test]
 fn no_datanode(rt: HostRuntime) -> Result<(), Fail> {
-    let heap = rt.alloc();
-    fails(&rt, heap, &mut house(heap)?, None, NoDatanode::Namenode)?;
-    fails(
-        &rt,
-        heap,
-        &mut pool(heap, Token::none())?,
-        None,
-        NoDatanode::List,
-    )?;
-    let table = [
-        (INFOS[0], 1, TOKEN, NoDatanode::NoNewNode),
-        (INFOS[3], 1, TOKEN, NoDatanode::NoSource),
-        (INFOS[3], 128, TOKEN, NoDatanode::List),
-        (INFOS[3], 256, TOKEN, NoDatanode::List),
-        (b"\x0a\x00", 1, TOKEN, NoDatanode::List),
-        (INFOS[3], 1, b"", NoDatanode::List),
+    const CASES: &[Case] = &[
+        no_datanode!(Namenodes::House(1001, true), NoDatanode::Namenode),
+        no_datanode!(Namenodes::Pool(false), NoDatanode::List),
+        no_datanode!(offers!(A, 1, TOKEN), NoDatanode::NoNewNode),
+        no_datanode!(offers!(D, 1, TOKEN), NoDatanode::NoSource),
+        no_datanode!(offers!(D, 128, TOKEN), NoDatanode::List),
+        no_datanode!(offers!(D, 256, TOKEN), NoDatanode::List),
+        no_datanode!(offers!(b"\x0a\x00", 1, TOKEN), NoDatanode::List),
+        no_datanode!(offers!(D, 1, b""), NoDatanode::List),
     ];
-    for (info, storage_type, token, why) in table {
-        let row = Offered {
-            info,
-            storage_id: b"DS-1",
-            storage_type,
-        };
-        fails(&rt, heap, &mut TestNamenode { row, token }, None, why)?;
-    }
-    Ok(())
+    perform_all(&rt, rt.alloc(), CASES)
+}
+
+// The copy comes to that.
+macro_rules! no_copy {
+    ($transfer:expr, $why:expr) => {
+        fails!(Namenodes::Pool(true), Step::OnTransfer($transfer), $why)
+    };
 }
 
 #[test]
 fn no_copy(rt: HostRuntime) -> Result<(), Fail> {
-    let heap = rt.alloc();
-    let table = [
-        (Instead::Lost, NoDatanode::Lost),
-        (Instead::Octets(b"\x08"), NoDatanode::Undecodable),
-        (Instead::Octets(b"\x08\x02"), NoDatanode::Status),
-        (Instead::Octets(b""), NoDatanode::Status),
+    const CASES: &[Case] = &[
+        no_copy!(Instead::Lost, NoDatanode::Lost),
+        no_copy!(Instead::Octets(b"\x08"), NoDatanode::Undecodable),
+        no_copy!(Instead::Octets(b"\x08\x02"), NoDatanode::Status),
+        no_copy!(Instead::Octets(b""), NoDatanode::Status),
     ];
-    for (instead, why) in table {
-        fails(&rt, heap, &mut pool(heap, token()?)?, Some(instead), why)?;
-    }
-    Ok(())
+    perform_all(&rt, rt.alloc(), CASES)
 }
