@@ -1,5 +1,5 @@
 //! What must be true after every call, and of a closing record.
-use crate::model::{Model, refusal_in};
+use crate::model::Model;
 use crate::nodes::Nodes;
 use anyhow::{Context, ensure};
 use bench::state::Bench;
@@ -33,7 +33,7 @@ pub fn is_refused(
     outcome: Outcome,
     other: bool,
 ) -> anyhow::Result<()> {
-    let refusal = refusal_in(outcome);
+    let refusal = outcome.refusal();
     let as_it_must_be = match model.refusal(command) {
         Some(expected) => refusal == Some(expected),
         None if other => refusal == Some(Refusal::Store),

@@ -20,17 +20,6 @@ pub enum Phase {
     Closed,
 }
 
-/// Why a call was refused, where it was.
-pub fn refusal_in(outcome: Outcome) -> Option<Refusal> {
-    match outcome {
-        Outcome::Wrote(answer) => answer.err(),
-        Outcome::Heard(answer) => answer.err(),
-        Outcome::Beaten(answer) => answer.err(),
-        Outcome::Ended(answer) => answer.err(),
-        Outcome::Recovered(answer) => answer.err(),
-    }
-}
-
 /// A block by what its user was told.
 #[derive(Drop)]
 pub struct Model {
@@ -189,7 +178,7 @@ impl Model {
             Outcome::Recovered(Ok(recovered)) => self.recover(recovered, namenode)?,
             _ => {}
         }
-        if let Some(refusal) = refusal_in(outcome) {
+        if let Some(refusal) = outcome.refusal() {
             self.refused(refusal);
         }
         Ok(())

@@ -1,5 +1,4 @@
 //! What the runs came to, counted.
-use crate::model::refusal_in;
 use runs::command::Outcome;
 use writer::beat::Beat;
 use writer::heed::Heeded;
@@ -91,7 +90,7 @@ impl Tally {
             }
             _ => {}
         }
-        if let Some(refusal) = refusal_in(outcome) {
+        if let Some(refusal) = outcome.refusal() {
             self.refuse(refusal);
         }
     }

@@ -124,11 +124,11 @@ impl<'a> Progress<'a> {
                 self.broken = ended.put_lost;
             }
             Outcome::Recovered(Ok(recovered)) => self.recovered(rt, recovered)?,
-            Outcome::Wrote(Err(refusal))
-            | Outcome::Beaten(Err(refusal))
-            | Outcome::Heard(Err(refusal))
-            | Outcome::Ended(Err(refusal))
-            | Outcome::Recovered(Err(refusal)) => self.refused(refusal)?,
+            refused => {
+                if let Some(refusal) = refused.refusal() {
+                    self.refused(refusal)?;
+                }
+            }
         }
         Ok(())
     }

@@ -4,3 +4,4 @@ pub mod Runs
 pub mod Begins
 pub mod Law
 pub mod Made
+pub mod Outcomes

@@ -1,4 +1,6 @@
 //! What a client asks of a writer, and what came of it.
+ghost use Rattle.std.specs.Prelude.{◌≡◌};
+ghost use Rattle.runs.specs.Outcomes.{refusal_in};
 
 use writer::beat::Beat;
 use writer::finish::Finished;
@@ -25,4 +27,19 @@ pub enum Outcome {
     Beaten(Result<Beat, Refusal>),
     Ended(Result<Finished, Refusal>),
     Recovered(Result<Recovered, Refusal>),
+}
+
+impl Outcome {
+    /// Why the call was refused, where it was.
+    pub fn refusal(self) -> Option<Refusal>
+        ensures { result ≡ refusal_in self }
+    {
+        match self {
+            Outcome::Wrote(answer) => answer.err(),
+            Outcome::Heard(answer) => answer.err(),
+            Outcome::Beaten(answer) => answer.err(),
+            Outcome::Ended(answer) => answer.err(),
+            Outcome::Recovered(answer) => answer.err(),
+        }
+    }
 }

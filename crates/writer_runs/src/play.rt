@@ -2,7 +2,7 @@
 use crate::agree::{Place, agree};
 use crate::nodes::Nodes;
 use crate::run::Run;
-use crate::step::{Step, refusal_of};
+use crate::step::Step;
 use crate::test_namenode::HasEntry;
 use chain::link::Link;
 use runs::command::{Command, Outcome};
@@ -69,7 +69,7 @@ impl<C: Nodes> Run<C> {
                 agree(rt, place, &is_broken, &true);
             }
             Step::Refused(command, number, refusal) => {
-                let came = refusal_of(self.call(namenode, command));
+                let came = self.call(namenode, command).refusal();
                 agree(rt, place, &came, &Some(refusal));
                 agree(rt, place, &u8::from(refusal), &number);
             }
@@ -94,6 +94,6 @@ impl<C: Nodes> Run<C> {
     }
 
     fn number<N: HasEntry>(&mut self, namenode: &mut N, command: Command<'_>) -> u8 {
-        refusal_of(self.call(namenode, command)).map_or(0, u8::from)
+        self.call(namenode, command).refusal().map_or(0, u8::from)
     }
 }

@@ -147,14 +147,3 @@ impl Step {
         }
     }
 }
-
-/// Why a call was refused, if it was.
-pub fn refusal_of(outcome: Outcome) -> Option<Refusal> {
-    match outcome {
-        Outcome::Wrote(wrote) => wrote.err(),
-        Outcome::Heard(heard) => heard.err(),
-        Outcome::Beaten(beaten) => beaten.err(),
-        Outcome::Ended(ended) => ended.err(),
-        Outcome::Recovered(recovered) => recovered.err(),
-    }
-}
