@@ -91,7 +91,12 @@ impl<N: NamenodeProtocol> NamenodeProtocol for FaultyNamenode<N> {
         self.inner.stamp_token()
     }
 
-    fn update_pipeline(&mut self, stamp: u64, size: u64, nodes: &[Datanode]) -> Result<(), Refused> {
+    fn update_pipeline(
+        &mut self,
+        stamp: u64,
+        size: u64,
+        nodes: &[Datanode],
+    ) -> Result<(), Refused> {
         if self.is_due() {
             return Err(Refused);
         }

@@ -77,7 +77,9 @@ impl Run {
                 tally.refuse(Refusal::Incomplete(held));
             }
             (Err(refusal), Phase::Broken(_) | Phase::Closed) => tally.refuse(refusal),
-            _ => bail!("a record is given for a block that is not complete, or none for one that is"),
+            _ => bail!(
+                "a record is given for a block that is not complete, or none for one that is"
+            ),
         }
         Ok(())
     }

@@ -11,12 +11,7 @@ pub fn fill(chance: &mut Chance, bytes: &mut [u8]) {
 }
 
 /// The next call: mostly one that is acted on, and each one now and then. `time` goes on, and sometimes back.
-pub fn command<'a>(
-    chance: &mut Chance,
-    model: &Model,
-    bytes: &'a [u8],
-    time: u64,
-) -> Command<'a> {
+pub fn command<'a>(chance: &mut Chance, model: &Model, bytes: &'a [u8], time: u64) -> Command<'a> {
     if model.is_broken() && !chance.one_in(8) {
         return Command::Recover(time);
     }

@@ -38,13 +38,14 @@ pub fn is_refused(
         Some(expected) => refusal == Some(expected),
         None if other => refusal == Some(Refusal::Store),
         None => match refusal {
-            Some(refusal) => {
-                refusal == Refusal::Places || (9..=16).contains(&u8::from(refusal))
-            }
+            Some(refusal) => { refusal == Refusal::Places || (9..=16).contains(&u8::from(refusal)) }
             None => true,
         },
     };
-    ensure!(as_it_must_be, "a call is refused that must not be, or not one that must");
+    ensure!(
+        as_it_must_be,
+        "a call is refused that must not be, or not one that must"
+    );
     Ok(())
 }
 
@@ -110,7 +111,10 @@ pub fn is_told(
         outcome,
         Outcome::Heard(Ok(Heeded::Confirmed(_) | Heeded::Complete(_)))
     );
-    let left = link.inner().pending().saturating_add(usize::from(confirmed));
+    let left = link
+        .inner()
+        .pending()
+        .saturating_add(usize::from(confirmed));
     ensure!(
         !matches!(outcome, Outcome::Heard(_)) || left == before.pending,
         "a packet has left the pending ones and is not told, or is told and has not left"

@@ -72,9 +72,8 @@ impl Model {
             (Phase::Whole, Command::Recover(_)) => Some(Refusal::Whole),
             (Phase::Broken(_), Command::Recover(_)) => None,
             (Phase::Broken(_), _) => Some(Refusal::Broken),
-            (Phase::Whole, Command::Write(_) | Command::Beat(_) | Command::Finish) if self.finished => {
-                Some(Refusal::Finished)
-            }
+            (Phase::Whole, Command::Write(_) | Command::Beat(_) | Command::Finish)
+                if self.finished => { Some(Refusal::Finished) }
             (Phase::Whole, _) => None,
         }
     }

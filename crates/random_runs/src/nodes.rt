@@ -1,6 +1,6 @@
 //! The datanodes of a pipeline, each by its letter, in order.
-use ack::tally::FailedNodes;
 use crate::cluster::letter;
+use ack::tally::FailedNodes;
 use namenode::protocol::NamenodeProtocol;
 use proto::datanode::Datanode;
 
@@ -41,7 +41,10 @@ impl Nodes {
     }
 
     pub fn at(&self, position: usize) -> Option<u8> {
-        self.letters.get(position).copied().filter(|_| position < self.len)
+        self.letters
+            .get(position)
+            .copied()
+            .filter(|_| position < self.len)
     }
 
     pub fn has(&self, letter: u8) -> bool {
@@ -51,7 +54,11 @@ impl Nodes {
     /// Those that are left.
     pub fn without(&self, failed: FailedNodes) -> Nodes {
         let mut left = Nodes::none();
-        let nodes = self.letters.iter().take(self.len).zip(failed.positions.iter());
+        let nodes = self
+            .letters
+            .iter()
+            .take(self.len)
+            .zip(failed.positions.iter());
         for (letter, failed) in nodes {
             if !*failed {
                 left.push(*letter);

@@ -64,7 +64,9 @@ impl Plan {
     pub fn random(chance: &mut Chance) -> anyhow::Result<Plan> {
         let chunk = one_of(chance, &CHUNKS, 4);
         let packet = packet_for(chance, chunk);
-        let size = PacketSize::new(chunk, packet).map_err(|_| anyhow!("the sizes do not go together"))?;
+        let size = PacketSize::new(chunk, packet).map_err(|_| anyhow!(
+            "the sizes do not go together"
+        ))?;
         let block_size = chance.below(BLOCK);
         let initial = if chance.one_in(3) {
             chance.below(block_size.saturating_add(1))

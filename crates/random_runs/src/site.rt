@@ -49,11 +49,7 @@ fn link(
 }
 
 // A namenode that has the block on the first datanodes, and some of the others to spare, with faults.
-fn namenode(
-    heap: Global,
-    chance: &mut Chance,
-    plan: Plan,
-) -> anyhow::Result<FaultyNamenode<Pool>> {
+fn namenode(heap: Global, chance: &mut Chance, plan: Plan) -> anyhow::Result<FaultyNamenode<Pool>> {
     let nodes = datanodes()?;
     let own = nodes
         .get(0..plan.nodes)
@@ -99,9 +95,15 @@ impl Site {
             packet_size: plan.packet,
             replication: plan.replication,
             replace: plan.replace,
-            infos: INFOS.get(0..plan.nodes).context("there are too few datanodes")?,
-            storage_ids: STORAGE_IDS.get(0..plan.nodes).context("there are too few storages")?,
-            storage_types: STORAGE_TYPES.get(0..plan.nodes).context("there are too few types")?,
+            infos: INFOS
+                .get(0..plan.nodes)
+                .context("there are too few datanodes")?,
+            storage_ids: STORAGE_IDS
+                .get(0..plan.nodes)
+                .context("there are too few storages")?,
+            storage_types: STORAGE_TYPES
+                .get(0..plan.nodes)
+                .context("there are too few types")?,
             token: TOKEN,
             client_name: b"recorder",
             time: 0,

@@ -84,7 +84,10 @@ impl Tally {
             Outcome::Ended(Ok(finished)) => add(&mut self.breaks, u64::from(finished.put_lost)),
             Outcome::Recovered(Ok(recovered)) => {
                 add(&mut self.recoveries, 1);
-                add(&mut self.replacements, u64::from(recovered.choice.is_some()));
+                add(
+                    &mut self.replacements,
+                    u64::from(recovered.choice.is_some()),
+                );
                 add(&mut self.replayed, recovered.replayed as u64);
                 add(&mut self.breaks, u64::from(recovered.put_lost));
             }
@@ -96,7 +99,10 @@ impl Tally {
     }
 
     pub fn show(&self, rt: &HostRuntime) -> anyhow::Result<()> {
-        println!(rt; "blocks {}, calls {}, bytes taken {}", self.blocks, self.calls, self.bytes)?;
+        println!(rt;
+            "blocks {}, calls {}, bytes taken {}",
+            self.blocks, self.calls, self.bytes
+        )?;
         println!(rt;
             "packets confirmed {}, heartbeats put {}, breaks {}",
             self.confirmed, self.beats, self.breaks
@@ -107,7 +113,12 @@ impl Tally {
         )?;
         println!(rt; "records {}", self.records)?;
         println!(rt; "refusals by number:")?;
-        for (number, count) in self.refusals.iter().enumerate().filter(|(_, count)| **count > 0) {
+        for (number, count) in self
+            .refusals
+            .iter()
+            .enumerate()
+            .filter(|(_, count)| **count > 0)
+        {
             println!(rt; "  {number}: {count}")?;
         }
         println!(rt; "nothing was lost, doubled or out of order")?;
