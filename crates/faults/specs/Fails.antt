@@ -1,5 +1,5 @@
 -- What a failing datanode makes of an answer. Assumes nothing.
-use Rattle.std.specs.Prelude.{◌≡◌, Bool, true, false, ◌&&◌, ◌⊎◌, List, None, nat_le}
+use Rattle.std.specs.Prelude.{◌≡◌, Bool, true, false, ◌&&◌, ◌⊎◌, None, nat_le}
 use Rattle.ack.specs.Verdicts.{passes}
 use Rattle.chain.specs.Acts.{Came, nothing, lost, answer}
 use Rattle.faults.specs.declared.failing_node.Failure.{Failure}

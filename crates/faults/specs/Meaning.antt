@@ -8,7 +8,6 @@ use Rattle.chain.specs.Acts.{Came}
 use Rattle.chain.specs.Meaning.{Seen, SetsUp}
 use Rattle.chain.specs.Meaning as meaning
 use Rattle.faults.specs.declared.faulty_link.FaultyLink.{FaultyLink}
-use Rattle.faults.specs.Faults.{first_seqno}
 use Rattle.faults.specs.Links.{Spoils, Sets, Puts, Nexts, Transfers}
 
 nothing_came : (request : List ℕ) (least : ℕ) (came : Option (List ℕ)) (s t : Seen) → came ≡ None → t ≡ s → SetsUp request least came s t
