@@ -1,8 +1,11 @@
 //! A pipeline one of whose datanodes fails, once, at a packet of the user's choice.
-ghost use Rattle.std.specs.Prelude.{◌≡◌, Some, None};
+ghost use Rattle.std.specs.Prelude.{◌≡◌, Some, None, Option};
 ghost use Rattle.ack.specs.Verdicts.{passes};
 ghost use Rattle.chain.specs.Acts.{Answered};
-ghost use Rattle.faults.specs.Fails.{Nexts, Refuses, due};
+ghost use Rattle.packet.specs.Frame.{Packet};
+ghost use Rattle.packet.specs.Reading.{Reads};
+ghost use Rattle.faults.specs.declared.failing_node.Failure.TheVariants.{Ahead};
+ghost use Rattle.faults.specs.Fails.{Puts, Nexts, Refuses, due, numbered, once_put};
 ghost use Rattle.std.proofs.Common.{rules};
 
 use crate::answer::{ANSWER_LEN, ERROR, NODES, SUCCESS, passing};
@@ -22,6 +25,18 @@ pub(crate) enum Failure {
     Past,
 }
 
+impl Failure {
+    // What it is when a frame was put, which is that of the packet or not.
+    fn once_put(self, here: bool) -> Failure
+        ensures { result ≡ once_put self here }
+    {
+        match self {
+            Failure::Ahead if here => Failure::Due,
+            other => other,
+        }
+    }
+}
+
 /// A pipeline as `inner` is, but for one answer: when it is the turn of the packet of a chosen number, the datanode at `position` says that it
 /// failed. `nodes` are the pipeline's datanodes, each of which answers.
 #[derive(Drop)]
@@ -38,7 +53,7 @@ pub struct FailingNode<C> {
 impl<C> FailingNode<C> {
     /// The datanode at `position` of `nodes` fails at the packet of that number.
     pub fn at_packet(inner: C, packet: u64, position: usize, nodes: usize) -> FailingNode<C>
-        ensures { result.inner ≡ inner }
+        ensures { result ≡ record { inner = inner; packet = packet; position = position; nodes = nodes; failure = Ahead; answered = 0 } }
     {
         FailingNode {
             inner,
@@ -59,8 +74,13 @@ impl<C> FailingNode<C> {
 }
 
 // Whether a frame is that of the packet of this number.
-fn has_number(frame: &[u8], seqno: u64) -> bool {
-    read_frame(frame).is_some_and(|read| read.packet.seqno == seqno)
+fn has_number(frame: &[u8], seqno: u64) -> bool
+    ensures { (p : Option Packet) × (Reads frame.now p × (result ≡ numbered p seqno)) }
+{
+    match read_frame(frame) {
+        Some(read) => read.packet.seqno == seqno,
+        None => false,
+    }
 }
 
 // An answer in which one node says that it failed, and the others that they have the packet. It is looked at before it is used, so that none
@@ -117,7 +137,7 @@ impl<C> FailingNode<C> {
 impl<C: Link> Link for FailingNode<C> {
     ghost sets = { λ a node request least came b. C.Link.sets a.inner node request least came b.inner };
 
-    ghost puts = { λ a frame taken b. C.Link.puts a.inner frame taken b.inner };
+    ghost puts = { λ a frame taken b. Puts C.Link.puts a frame taken b };
 
     ghost nexts = { λ a came b. Nexts C.Link.nexts a came b };
 
@@ -135,9 +155,8 @@ impl<C: Link> Link for FailingNode<C> {
 
     fn put(&mut self, frame: &[u8]) -> Result<(), LinkLost> {
         self.inner.put(frame)?;
-        if self.failure == Failure::Ahead && has_number(frame, self.packet) {
-            self.failure = Failure::Due;
-        }
+        let here = has_number(frame, self.packet);
+        self.failure = self.failure.once_put(here);
         Ok(())
     }
 
