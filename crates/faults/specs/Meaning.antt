@@ -23,16 +23,16 @@ module _ {C : Type 0} (seen : C → Seen) where
   pub setting : (sets : C → Datanode → List ℕ → ℕ → Option (List ℕ) → C → Type 0)
       → ((a b : C) (node : Datanode) (request : List ℕ) (least : ℕ) (came : Option (List ℕ)) → sets a node request least came b → SetsUp request least came (seen a) (seen b))
       → (a b : FaultyLink C) (node : Datanode) (request : List ℕ) (least : ℕ) (came : Option (List ℕ)) → Sets sets a node request least came b → SetsUp request least came (seen a.inner) (seen b.inner)
-  setting sets law a b node request least came (inl (d, inl (e, n))) = nothing_came request least came (seen a.inner) (seen b.inner) n (ap seen e)
-  setting sets law a b node request least came (inl (d, inr (own, (act, p)))) = spoilt request least own came (seen a.inner) (seen b.inner) p (law a.inner b.inner node request least own act)
-  setting sets law a b node request least came (inr (d, act)) = law a.inner b.inner node request least came act
+  setting sets law a b node request least came (inl (d, inl (e, n)), l) = nothing_came request least came (seen a.inner) (seen b.inner) n (ap seen e)
+  setting sets law a b node request least came (inl (d, inr (own, (act, p))), l) = spoilt request least own came (seen a.inner) (seen b.inner) p (law a.inner b.inner node request least own act)
+  setting sets law a b node request least came (inr (d, act), l) = law a.inner b.inner node request least came act
 
   pub putting : (puts : C → List ℕ → Bool → C → Type 0)
       → ((a b : C) (frame : List ℕ) (taken : Bool) → puts a frame taken b → meaning.Puts frame taken (seen a) (seen b))
       → (a b : FaultyLink C) (frame : List ℕ) (taken : Bool) → Puts puts a frame taken b → meaning.Puts frame taken (seen a.inner) (seen b.inner)
-  putting puts law a b frame true (inl (d, (e, t))) = absurd (false≢true (sym t))
-  putting puts law a b frame false (inl (d, (e, t))) = ap seen e
-  putting puts law a b frame taken (inr (d, act)) = law a.inner b.inner frame taken act
+  putting puts law a b frame true (inl (d, (e, t)), m) = absurd (false≢true (sym t))
+  putting puts law a b frame false (inl (d, (e, t)), m) = ap seen e
+  putting puts law a b frame taken (inr (d, act), m) = law a.inner b.inner frame taken act
 
   pub answering : (nexts : C → Came → C → Type 0)
       → ((a b : C) (came : Came) → nexts a came b → meaning.Nexts came (seen a) (seen b))

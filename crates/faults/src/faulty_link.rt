@@ -1,7 +1,9 @@
 //! A pipeline that loses what it is sent, and sends what nobody asked for.
-ghost use Rattle.std.specs.Prelude.{◌≡◌, Ok, Err};
+ghost use Rattle.std.specs.Prelude.{◌≡◌, None, Option};
+ghost use Rattle.packet.specs.Frame.{Packet};
+ghost use Rattle.packet.specs.Reading.{Reads};
 ghost use Rattle.chain.specs.Acts.{Replied};
-ghost use Rattle.faults.specs.Links.{due, Fails, Sets, Puts, Nexts, Transfers};
+ghost use Rattle.faults.specs.Links.{due, last_in, last_after_set_up, Fails, Sets, Puts, Nexts, Transfers};
 ghost use Rattle.faults.specs.Meaning.{setting, putting, answering, transferring};
 ghost use Rattle.std.proofs.Common.{rules};
 
@@ -35,9 +37,7 @@ pub struct FaultyLink<C> {
 
 impl<C> FaultyLink<C> {
     pub fn over(inner: C, chance: Chance, rarity: u64) -> FaultyLink<C>
-        ensures inner { result.inner ≡ inner }
-        ensures chance { result.chance ≡ chance }
-        ensures rarity { result.rarity ≡ rarity }
+        ensures { result ≡ record { inner = inner; chance = chance; rarity = rarity; nodes = 1; last = None } }
     {
         FaultyLink {
             inner,
@@ -64,7 +64,8 @@ impl<C> FaultyLink<C> {
 
     // The pipeline is another one from now on.
     fn begin(&mut self, request: &[u8])
-        ensures { self.new.inner ≡ self.old.inner }
+        ensures inner { self.new.inner ≡ self.old.inner }
+        ensures last { self.new.last ≡ None }
     {
         self.nodes = nodes_in(request);
         self.last = None;
@@ -72,10 +73,13 @@ impl<C> FaultyLink<C> {
 
     // Notes a packet that was taken.
     fn note(&mut self, frame: &[u8])
-        ensures { self.new.inner ≡ self.old.inner }
+        ensures inner { self.new.inner ≡ self.old.inner }
+        ensures last { (p : Option Packet) × (Reads frame.now p × (self.new.last ≡ last_in p self.old.last)) }
     {
-        if let Some(read) = read_frame(frame).filter(|read| read.packet.last) {
-            self.last = Some(read.packet.seqno);
+        if let Some(read) = read_frame(frame) {
+            if read.packet.last {
+                self.last = Some(read.packet.seqno);
+            }
         }
     }
 
@@ -83,13 +87,15 @@ impl<C> FaultyLink<C> {
     fn is_due(&mut self) -> bool
         ensures value { result ≡ due self.old }
         ensures inner { self.new.inner ≡ self.old.inner }
+        ensures last { self.new.last ≡ self.old.last }
     {
         self.chance.one_in(self.rarity)
     }
 
     // A response that is not good, where one is to come in the place of the one that came, and not the loss of all.
     fn bad_response(&mut self) -> Option<&'static [u8]>
-        ensures { self.new.inner ≡ self.old.inner }
+        ensures inner { self.new.inner ≡ self.old.inner }
+        ensures last { self.new.last ≡ self.old.last }
     {
         if self.chance.one_in(2) {
             return None;
@@ -113,7 +119,7 @@ impl<C: Link> FaultyLink<C> {
         least: u64,
         answer: &mut [u8],
     ) -> Result<usize, LinkLost>
-        ensures { Replied (λ came. Fails self.old.inner (λ own c. C.Link.sets self.old.inner node.now request.now least own c) came self.new.inner) answer.old answer.new result }
+        ensures { Replied (λ came. Fails self.old.inner (λ own c. C.Link.sets self.old.inner node.now request.now least own c) came self.new.inner × (self.new.last ≡ last_after_set_up came self.old.last)) answer.old answer.new result }
     {
         let bad = self.bad_response().ok_or(LinkLost)?;
         let len = bad.len();

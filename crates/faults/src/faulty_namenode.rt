@@ -18,9 +18,7 @@ pub struct FaultyNamenode<N> {
 
 impl<N> FaultyNamenode<N> {
     pub fn over(inner: N, chance: Chance, rarity: u64) -> FaultyNamenode<N>
-        ensures inner { result.inner ≡ inner }
-        ensures chance { result.chance ≡ chance }
-        ensures rarity { result.rarity ≡ rarity }
+        ensures { result ≡ record { inner = inner; chance = chance; rarity = rarity } }
     {
         FaultyNamenode {
             inner,
