@@ -6,6 +6,4 @@ pub mod laws;
 pub mod packed;
 pub mod response;
 pub mod tally;
-#[cfg(test)]
-mod tests;
 pub mod write;

@@ -6,5 +6,3 @@ pub mod header;
 pub mod read;
 pub mod size;
 pub mod sums;
-#[cfg(test)]
-mod tests;

@@ -9,5 +9,3 @@ pub mod laws;
 pub mod memory;
 pub mod spare_datanodes;
 pub mod spares;
-#[cfg(test)]
-mod tests;

@@ -5,5 +5,3 @@ pub mod line;
 pub mod number;
 pub mod octets;
 pub mod reading;
-#[cfg(test)]
-mod tests;

@@ -3,5 +3,3 @@
 
 pub mod cut;
 pub mod lines;
-#[cfg(test)]
-mod tests;

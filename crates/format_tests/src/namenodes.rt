@@ -1,6 +1,6 @@
 //! Both namenodes, asked for each thing once.
-use crate::memory::{House, Pool};
 use namenode::protocol::{NamenodeProtocol, Refused};
+use pool::memory::{House, Pool};
 use proto::datanode::Datanode;
 use proto::token::Token;
 use std::test::Fail;
