@@ -3,6 +3,7 @@ ghost use Rattle.std.specs.Prelude.{◌≡◌, ◌+◌, ◌^◌, ◌<◌};
 ghost use Rattle.ack.specs.Tally.{with_failed, no_replies, noted, reply_count};
 
 use crate::packed::Repeated;
+use std::fmt;
 
 // The largest status code of datatransfer.proto, ERROR_BLOCK_PINNED.
 const LAST_STATUS: u64 = 13;
@@ -34,6 +35,24 @@ impl FailedNodes {
             count: self.count + 1,
             highest: position,
         }
+    }
+}
+
+/// The positions that failed, with commas between them. Of those from 8 on only the highest is known.
+impl fmt::Display for FailedNodes {
+    fn fmt<W: fmt::Write>(&self, f: &mut fmt::Formatter<W>) -> fmt::Result {
+        let mut between = "";
+        for (i, is_failed) in self.positions.iter().enumerate() {
+            if *is_failed {
+                write!(f, "{between}{i}")?;
+                between = ",";
+            }
+        }
+        if self.highest >= 8 {
+            let highest = self.highest;
+            write!(f, "{between}{highest}")?;
+        }
+        Ok(())
     }
 }
 

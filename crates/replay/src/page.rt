@@ -1,5 +1,4 @@
 //! The transcript's lines.
-use crate::text::{failed_text, method_text};
 use crate::transfer::choice_of;
 use ack::tally::FailedNodes;
 use proto::block::ExtendedBlock;
@@ -51,8 +50,7 @@ impl<'a> Page<'a> {
     }
 
     pub fn recovers(&self, failed: FailedNodes) -> anyhow::Result<()> {
-        let text = failed_text(self.rt.alloc(), failed)?;
-        println!(self.rt; "recover failed=[{text}]")?;
+        println!(self.rt; "recover failed=[{failed}]")?;
         Ok(())
     }
 
@@ -99,9 +97,8 @@ impl<'a> Page<'a> {
             }
             Event::Frame { connection, octets } => self.frame(*connection, octets.as_slice()),
             Event::Asked { method, message } => {
-                let name = method_text(*method);
                 let digits = hex::encode(self.rt.alloc(), message.as_slice())?;
-                println!(self.rt; "namenode {name} {digits}")?;
+                println!(self.rt; "namenode {method} {digits}")?;
                 Ok(())
             }
             Event::Refused => self.line("namenode-refused"),

@@ -24,7 +24,7 @@ const MAX_INITIAL_LEN: u64 = 0x1000_0000;
 const NODES: u64 = 8;
 
 /// Where the run is.
-#[derive(Clone, Copy, Debug, PartialEq, Eq)]
+#[derive(Clone, Copy, PartialEq, Eq)]
 pub enum Stage {
     /// The block is not open yet.
     Before,

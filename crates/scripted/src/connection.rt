@@ -9,7 +9,7 @@ use std::alloc::{AllocError, Global};
 use std::collections::VecDeque;
 
 /// How a connection is.
-#[derive(Clone, Copy, Debug, PartialEq, Eq)]
+#[derive(Clone, Copy, PartialEq, Eq)]
 pub enum Line {
     /// No connection was made yet, or it is gone.
     Closed,
@@ -52,17 +52,17 @@ impl Connection {
         octets: &[u8],
     ) -> Result<(), LinkLost> {
         let heap = self.log.heap();
-        let address = address_in(heap, node.info()).map_err(|_| LinkLost)?;
+        let address = address_in(heap, node.info()).or(Err(LinkLost))?;
         if self.plans.down.iter().any(|down| *down == address) {
             return Err(LinkLost);
         }
-        let octets = Vec::from_slice(heap, octets).map_err(|_| LinkLost)?;
+        let octets = Vec::from_slice(heap, octets).or(Err(LinkLost))?;
         let event = Event::Request {
             address,
             code,
             octets,
         };
-        self.log.note(event).map_err(|_| LinkLost)
+        self.log.note(event).or(Err(LinkLost))
     }
 
     // The planned reply to a set up. Without a plan it is good.
@@ -87,12 +87,12 @@ impl Connection {
         if self.line == Line::Closed {
             return Err(LinkLost);
         }
-        let octets = Vec::from_slice(self.log.heap(), octets).map_err(|_| LinkLost)?;
+        let octets = Vec::from_slice(self.log.heap(), octets).or(Err(LinkLost))?;
         let event = Event::Frame {
             connection: self.count,
             octets,
         };
-        self.log.note(event).map_err(|_| LinkLost)
+        self.log.note(event).or(Err(LinkLost))
     }
 
     // The next answer that has come.

@@ -1,11 +1,23 @@
 //! What the chain and the namenode were handed.
+use std::fmt;
 
 /// A request of the namenode.
-#[derive(Clone, Copy, Debug, PartialEq, Eq)]
+#[derive(Clone, Copy)]
 pub enum Method {
     GetAdditionalDatanode,
     UpdateBlockForPipeline,
     UpdatePipeline,
+}
+
+/// The namenode's name of the request.
+impl fmt::Display for Method {
+    fn fmt<W: fmt::Write>(&self, f: &mut fmt::Formatter<W>) -> fmt::Result {
+        match self {
+            Method::GetAdditionalDatanode => write!(f, "getAdditionalDatanode"),
+            Method::UpdateBlockForPipeline => write!(f, "updateBlockForPipeline"),
+            Method::UpdatePipeline => write!(f, "updatePipeline"),
+        }
+    }
 }
 
 /// Something that happened at the chain or at the namenode.

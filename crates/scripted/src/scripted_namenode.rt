@@ -73,7 +73,7 @@ impl ScriptedNamenode {
         ensures { self.new.house ≡ self.old.house }
     {
         let event = Event::Asked { method, message };
-        self.log.note(event).map_err(|_| Refused)
+        self.log.note(event).or(Err(Refused))
     }
 
     // Writes a refusal down.
@@ -105,7 +105,7 @@ impl NamenodeProtocol for ScriptedNamenode {
         let message = self
             .client
             .get_additional_datanode(size, survivors, failed)
-            .map_err(|_| Refused)?;
+            .or(Err(Refused))?;
         self.asked(Method::GetAdditionalDatanode, message)?;
         match self.plans.lists.pop_front() {
             Some(Some(list)) => {
@@ -137,7 +137,7 @@ impl NamenodeProtocol for ScriptedNamenode {
         let message = self
             .client
             .update_block_for_pipeline(size)
-            .map_err(|_| Refused)?;
+            .or(Err(Refused))?;
         self.asked(Method::UpdateBlockForPipeline, message)?;
         match self.plans.stamps.pop_front() {
             Some(Some(given)) => {
@@ -161,7 +161,7 @@ impl NamenodeProtocol for ScriptedNamenode {
         let message = self
             .client
             .update_pipeline(stamp, size, nodes)
-            .map_err(|_| Refused)?;
+            .or(Err(Refused))?;
         self.asked(Method::UpdatePipeline, message)?;
         if self.plans.updates.pop_front() != Some(true) {
             return Err(self.refuse());

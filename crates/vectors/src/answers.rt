@@ -3,32 +3,12 @@ use crate::error::LineError;
 use crate::hex::octets;
 use ack::ack::{Verdict, judge};
 use ack::response::BlockOpResponse;
-use ack::tally::FailedNodes;
 use std::alloc::{AllocError, Global};
-
-// Texts by functions: neither Display nor the verdict is of this crate.
-
-// The failed positions, with commas between them. Of those from 8 on only the highest is known.
-fn failed_text(heap: Global, failed: FailedNodes) -> Result<String, AllocError> {
-    let mut text = String::from_str(heap, "failed:")?;
-    let mut between = "";
-    for (i, is_failed) in failed.positions.iter().enumerate() {
-        if *is_failed {
-            text.push_str(format!(in heap; "{between}{i}")?.as_str())?;
-            between = ",";
-        }
-    }
-    if failed.highest >= 8 {
-        let highest = failed.highest;
-        text.push_str(format!(in heap; "{between}{highest}")?.as_str())?;
-    }
-    Ok(text)
-}
 
 // What we make of an answer, in the words of the table.
 fn verdict_text(heap: Global, answer: &[u8]) -> Result<String, AllocError> {
     match judge(answer) {
-        Ok(Verdict::Failed(failed)) => failed_text(heap, failed),
+        Ok(Verdict::Failed(failed)) => format!(in heap; "failed:{failed}"),
         Ok(Verdict::HeartBeat) => String::from_str(heap, "heartbeat"),
         Ok(Verdict::UnknownSeqno) => String::from_str(heap, "unknown"),
         Ok(Verdict::Packet(seqno)) => format!(in heap; "packet:{seqno}"),

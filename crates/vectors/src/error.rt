@@ -6,7 +6,7 @@ use std::fmt;
 use std::num::ParseIntError;
 
 /// Why a line does not agree: it differs, or it cannot be run.
-#[derive(Clone, Copy, Debug, PartialEq, Eq)]
+#[derive(Clone, Copy, Debug)]
 pub enum LineError {
     /// Our octets or our verdict differ from those of a line of this kind.
     Differs(Kind),

@@ -6,7 +6,7 @@ use crate::error::LineError;
 use std::str::FromStr;
 
 /// What a line of the table is a vector of.
-#[derive(Clone, Copy, Debug, PartialEq, Eq)]
+#[derive(Clone, Copy, Debug)]
 pub enum Kind {
     Frame,
     Write,
@@ -31,7 +31,7 @@ impl FromStr for Kind {
 }
 
 /// How many lines agree, by their kind, and how many do not.
-#[derive(Clone, Copy, Debug, PartialEq, Eq)]
+#[derive(Clone, Copy)]
 pub struct Tally {
     pub frames: u32,
     pub writes: u32,
