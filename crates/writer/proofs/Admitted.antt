@@ -1,6 +1,7 @@
 -- What is known of a call that is not refused. Assumes nothing.
-use Rattle.std.proofs.Common.{◌≡◌, ℕ, ◌+◌, ◌<◌, ◌≤◌, Bool, true, false, cond, ◌&&◌, eqb, ltb, leb, Some, None, Option, refl, arith}
+use Rattle.std.proofs.Common.{◌≡◌, ℕ, ◌+◌, ◌<◌, ◌≤◌, Bool, true, false, cond, ◌&&◌, eqb, ltb, leb, Some, None, Option, refl, sym, arith}
 use Rattle.std.proofs.lemmas.Bool.{eqb-true, leb-true, ltb-true, and_parts}
+use Rattle.std.proofs.lemmas.Option.{none-some}
 use Rattle.writer.specs.declared.admit.Call.{Call}
 use Rattle.writer.specs.declared.admit.Call.TheVariants as call
 use Rattle.writer.specs.declared.admit.Lens.{Lens}
@@ -15,9 +16,6 @@ use Rattle.writer.specs.Views.{View}
 use Rattle.writer.specs.Finishing.{closing_packets, finish_refusal}
 use Rattle.writer.specs.Admits.{by_state, by_room, or_else, refusal_for}
 
-some_none : {A : Type 0} (x : A) → ◌≡◌ {A = Option A} (Some x) None → ⊥
-some_none x e = let z : ◌≡◌ {A = ℕ} 0 1 = cc in omega arith
-
 -- the buffers suffice
 pub record Roomy (t : Terms) (l : Lens) : Type 0 where
   pub store : l.store ≡ t.store_len
@@ -30,18 +28,18 @@ inner t l e true f h =
     let p = and_parts (leb (frame_room t) l.frame) (leb 4096 l.request && leb 4096 l.answer) f in
     let q = and_parts (leb 4096 l.request) (leb 4096 l.answer) p.1 in
     record { store = eqb-true _ _ e; frame = leb-true _ _ p.0; request = leb-true _ _ q.0; answer = leb-true _ _ q.1 }
-inner t l e false f h = absurd (some_none refusal.Buffer h)
+inner t l e false f h = absurd (none-some refusal.Buffer (sym h))
 
 outer : (t : Terms) (l : Lens) (b : Bool) → eqb l.store t.store_len ≡ b
     → cond b (cond (leb (frame_room t) l.frame && (leb 4096 l.request && leb 4096 l.answer)) None (Some refusal.Buffer)) (Some refusal.Store) ≡ None → Roomy t l
 outer t l true e h = inner t l e _ refl h
-outer t l false e h = absurd (some_none refusal.Store h)
+outer t l false e h = absurd (none-some refusal.Store (sym h))
 
 roomy : (t : Terms) (l : Lens) → by_room t l ≡ None → Roomy t l
 roomy t l h = outer t l _ refl h
 
 both_none : (a b : Option Refusal) → or_else a b ≡ None → (a ≡ None) × (b ≡ None)
-both_none (Some r) b e = absurd (some_none r e)
+both_none (Some r) b e = absurd (none-some r (sym e))
 both_none None b e = (refl, e)
 
 pub fits_state : (v : View) (c : Call) (l : Lens) → refusal_for v c l ≡ None → by_state v.state c ≡ None
@@ -52,10 +50,10 @@ fits_room v c l e = roomy v.terms l (both_none (by_state v.state c) (by_room v.t
 
 pub streams_finish : (s : State) → by_state s call.Finish ≡ None → s ≡ Streaming
 streams_finish Streaming e = refl
-streams_finish Finishing e = absurd (some_none _ e)
-streams_finish (Broken cause f) e = absurd (some_none _ e)
-streams_finish Complete e = absurd (some_none _ e)
-streams_finish Closed e = absurd (some_none _ e)
+streams_finish Finishing e = absurd (none-some _ (sym e))
+streams_finish (Broken cause f) e = absurd (none-some _ (sym e))
+streams_finish Complete e = absurd (none-some _ (sym e))
+streams_finish Closed e = absurd (none-some _ (sym e))
 
 pub record IsBroken (s : State) : Type 0 where
   pub cause : Cause
@@ -68,7 +66,7 @@ refused_store v c l other e = other (fits_room v c l e).store
 
 places_left : (b : Bool) → cond b None (Some refusal.Places) ≡ None → b ≡ true
 places_left true e = refl
-places_left false e = absurd (some_none refusal.Places e)
+places_left false e = absurd (none-some refusal.Places (sym e))
 
 pub finishes_fit : (v : View) (l : Lens) → finish_refusal v l ≡ None → (refusal_for v call.Finish l ≡ None) × (v.count + closing_packets v < v.terms.slots)
 finishes_fit v l e =
