@@ -1,5 +1,5 @@
 -- A record changed, seen as the list of sizes. Assumes nothing.
-use Rattle.std.proofs.Common.{◌≡◌, ℕ, zero, suc, ◌<◌, List, [], ◌∷◌, length, get_or, set, replicate, refl, ap, not-suc-le-zero, arith}
+use Rattle.std.proofs.Common.{◌≡◌, ℕ, zero, suc, List, [], ◌∷◌, length, set, replicate, refl, ap}
 use Rattle.held.specs.declared.table.HeldPacket.{HeldPacket}
 use Rattle.held.specs.Slots.{sizes_of}
 
@@ -7,11 +7,6 @@ pub sizes_set : (rs : List HeldPacket) (i n : ℕ) → sizes_of (set rs i (recor
 sizes_set [] i n = refl
 sizes_set (r ∷ rs) zero n = refl
 sizes_set (r ∷ rs) (suc i) n = ap (λ (z : List ℕ). r.len ∷ z) (sizes_set rs i n)
-
-pub sizes_at : (rs : List HeldPacket) (i : ℕ) (r : HeldPacket) → r ≡ get_or rs i r → i < length rs → r.len ≡ get_or (sizes_of rs) i 0
-sizes_at [] i r e h = absurd (not-suc-le-zero h)
-sizes_at (x ∷ rs) zero r e h = ap (λ (z : HeldPacket). z.len) e
-sizes_at (x ∷ rs) (suc i) r e h = sizes_at rs i r e (omega arith)
 
 pub sizes_long : (rs : List HeldPacket) → length (sizes_of rs) ≡ length rs
 sizes_long [] = refl

@@ -45,19 +45,22 @@ impl HeldTable {
         &mut self.records[i]
     }
 
-    /// Notes how many bytes the packet of that slot has.
+    /// Notes how many bytes the packet of that slot has. A slot past the last changes nothing.
     pub fn note(&mut self, i: usize, len: usize)
-        requires { i < vec_len self.old.records }
         ensures { sizes_of self.new.records.items ≡ slice_set (sizes_of self.old.records.items) i len }
     {
-        self.record(i).len = len;
+        if i < self.records.len() {
+            self.record(i).len = len;
+        }
     }
 
-    /// How many bytes the packet of that slot has.
+    /// How many bytes the packet of that slot has. A slot past the last has none.
     pub fn len_at(&self, i: usize) -> usize
-        requires { i < vec_len self.now.records }
         ensures { result ≡ slice_index (sizes_of self.now.records.items) i }
     {
-        self.records[i].len
+        match self.records.get(i) {
+            Some(record) => record.len,
+            None => 0,
+        }
     }
 }
