@@ -1,7 +1,7 @@
 -- What a namenode has of a block, what it is asked, and what it offers. Assumes nothing.
 use Rattle.std.specs.Prelude.{◌≡◌, ℕ, zero, suc, Bool, true, false, List, [], ◌∷◌, map, Some, None, Option, Ok, Err, Result}
 use Rattle.proto.specs.declared.datanode.Datanode.{Datanode}
-use Rattle.proto.specs.Messages.{held, id_of}
+use Rattle.proto.specs.Messages.{octets_in, id_of}
 use Rattle.namenode.specs.declared.protocol.Offered.{Offered}
 
 -- the block's generation stamp and length, and where it is: the ids of its datanodes and the names of its storages on them
@@ -13,7 +13,7 @@ pub record Entry : Type 0 where
 
 -- the entry that an update asks for
 abbrev pub entry_for : ℕ → ℕ → List Datanode → Entry
-entry_for stamp size nodes = record { stamp = stamp; size = size; ids = map id_of nodes; storages = map (λ d. held d.storage_id) nodes }
+entry_for stamp size nodes = record { stamp = stamp; size = size; ids = map id_of nodes; storages = map (λ d. octets_in d.storage_id) nodes }
 
 -- what a namenode is told when it is asked for a datanode more: the block's length, the datanodes that are left, and those that failed
 pub record Ask : Type 0 where

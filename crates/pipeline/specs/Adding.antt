@@ -4,7 +4,7 @@ use Rattle.proto.specs.declared.block.ClientOperationHeader.{ClientOperationHead
 use Rattle.proto.specs.declared.block.ExtendedBlock.{ExtendedBlock}
 use Rattle.proto.specs.declared.datanode.Datanode.{Datanode}
 use Rattle.proto.specs.declared.fixed.Fixed.{Fixed}
-use Rattle.proto.specs.Messages.{held}
+use Rattle.proto.specs.Messages.{octets_in}
 use Rattle.replace.specs.declared.choice.NoChoice.{NoChoice}
 use Rattle.replace.specs.declared.choice.NoChoice.TheVariants.{NewNode, Source}
 use Rattle.replace.specs.Choice.{choice_of}
@@ -55,7 +55,7 @@ Copies transfers header nodes (Ok places) s r t = Copied transfers header nodes 
 -- the header shows the token that came with the list
 pub record Shows (block : ExtendedBlock) (token : List ℕ) (client : Fixed 64) (header : ClientOperationHeader) : Type 0 where
   pub of_block : header.block ≡ block
-  pub of_token : held header.token.now.message ≡ token
+  pub of_token : octets_in header.token.now.message ≡ token
   pub of_client : header.client_name.now ≡ client
 
 -- a list in form is read, and a datanode of it chosen that none of the old ones is

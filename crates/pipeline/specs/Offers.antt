@@ -2,7 +2,7 @@
 use Rattle.std.specs.Prelude.{◌≡◌, Bool, true, false, ◌&&◌, List, [], ◌∷◌, map, length, Some, None, Option, nat_le}
 use Rattle.proto.specs.declared.datanode.Datanode.{Datanode}
 use Rattle.proto.specs.declared.token.Token.{Token}
-use Rattle.proto.specs.Messages.{held, info_of}
+use Rattle.proto.specs.Messages.{octets_in, info_of}
 use Rattle.proto.specs.Rules.{is_node, is_token}
 use Rattle.namenode.specs.declared.protocol.Offered.{Offered}
 use Rattle.namenode.specs.Entries.{Row, Offer}
@@ -13,7 +13,7 @@ row_in o = record { info = o.info.now; storage = o.storage_id.now; kind = o.stor
 
 -- a datanode's octets, the name of its storage and its type
 abbrev pub node_row : Datanode → Row
-node_row d = record { info = info_of d; storage = held d.storage_id; kind = d.storage_type }
+node_row d = record { info = info_of d; storage = octets_in d.storage_id; kind = d.storage_type }
 
 -- these datanodes are those of the rows, in their order
 abbrev pub Rows : List Row → List Datanode → Type 0
@@ -42,5 +42,5 @@ RowsRead rows nodes false = rows_in_form rows ≡ false
 
 -- what came of the offer: its datanodes with its token, or nothing where it is not in form
 abbrev pub OfferRead : Offer → List Datanode → Option Token → Type 0
-OfferRead o nodes (Some token) = (in_form o ≡ true) × Rows o.rows nodes × (held token.message ≡ o.token)
+OfferRead o nodes (Some token) = (in_form o ≡ true) × Rows o.rows nodes × (octets_in token.message ≡ o.token)
 OfferRead o nodes None = in_form o ≡ false

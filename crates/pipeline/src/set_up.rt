@@ -13,7 +13,7 @@ use request::write_block::WriteBlock;
 
 /// What a pipeline is set up with, but for its datanodes.
 #[derive(Clone, Copy)]
-pub struct Setting<'a> {
+pub struct SetupRequest<'a> {
     pub header: ClientOperationHeader<'a>,
     pub stage: Stage,
     pub min_bytes: u64,
@@ -23,19 +23,19 @@ pub struct Setting<'a> {
 }
 
 // The request for these datanodes, one to eight, which is sent to the first of them. A slice, since a writer has them in several tables.
-fn request_for<'a>(setting: Setting<'a>, nodes: &'a [Datanode]) -> WriteBlock<'a>
+fn request_for<'a>(wanted: SetupRequest<'a>, nodes: &'a [Datanode]) -> WriteBlock<'a>
     requires { (1 ≤ length nodes.now) × (length nodes.now ≤ 8) }
-    ensures { Requests setting.entry nodes.now result }
+    ensures { Requests wanted.entry nodes.now result }
 {
     WriteBlock {
-        header: setting.header,
-        stage: setting.stage,
+        header: wanted.header,
+        stage: wanted.stage,
         first: &nodes[0],
         targets: &nodes[1..],
-        min_bytes: setting.min_bytes,
-        max_bytes: setting.max_bytes,
-        latest_stamp: setting.latest_stamp,
-        chunk_size: setting.chunk_size,
+        min_bytes: wanted.min_bytes,
+        max_bytes: wanted.max_bytes,
+        latest_stamp: wanted.latest_stamp,
+        chunk_size: wanted.chunk_size,
     }
 }
 
@@ -44,16 +44,16 @@ fn request_for<'a>(setting: Setting<'a>, nodes: &'a [Datanode]) -> WriteBlock<'a
 fn send_set_up<'a, L: Link>(
     link: &mut L,
     nodes: &'a [Datanode],
-    setting: Setting<'a>,
+    wanted: SetupRequest<'a>,
     request: &mut [u8],
     answer: &mut [u8],
 ) -> Result<(), ReplyError>
     requires { (1 ≤ length nodes.now) × ((length nodes.now ≤ 8) × (4096 ≤ length request.old)) }
-    ensures { SetsUp L.Link.sets setting.entry nodes.now link.old request.old request.new answer.old answer.new result link.new }
+    ensures { SetsUp L.Link.sets wanted.entry nodes.now link.old request.old request.new answer.old answer.new result link.new }
 {
-    let message = request_for(setting, nodes);
+    let message = request_for(wanted, nodes);
     let end = write_request(&message, request);
-    let came = link.set_up(message.first, &request[0..end], setting.min_bytes, answer);
+    let came = link.set_up(message.first, &request[0..end], wanted.min_bytes, answer);
     judge_reply(came, answer)
 }
 
@@ -65,12 +65,12 @@ impl<'a, L: Link> Channel<'a, L> {
     pub fn set_up<'b>(
         &mut self,
         nodes: &'b [Datanode],
-        setting: Setting<'b>,
+        wanted: SetupRequest<'b>,
     ) -> Result<(), ReplyError>
         requires { (1 ≤ length nodes.now) × (length nodes.now ≤ 8) }
-        ensures acts { SetsUp L.Link.sets setting.entry nodes.now self.old.link.now self.old.request.now self.new.request.now self.old.answer.now self.new.answer.now result self.new.link.now }
+        ensures acts { SetsUp L.Link.sets wanted.entry nodes.now self.old.link.now self.old.request.now self.new.request.now self.old.answer.now self.new.answer.now result self.new.link.now }
         ensures same { SameLoans self.old self.new }
     {
-        send_set_up(self.link, nodes, setting, self.request, self.answer)
+        send_set_up(self.link, nodes, wanted, self.request, self.answer)
     }
 }

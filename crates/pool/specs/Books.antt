@@ -1,7 +1,7 @@
 -- The entry that a namenode in memory keeps, with its token, and what a request makes of it. Assumes nothing.
 use Rattle.std.specs.Prelude.{ℕ, ◌+◌, ◌-◌, ◌^◌, Bool, cond, List, map, length, Some, None, vec_items, Option, ◌==◌, nat_le}
 use Rattle.proto.specs.declared.datanode.Datanode.{Datanode}
-use Rattle.proto.specs.Messages.{held, info_of}
+use Rattle.proto.specs.Messages.{octets_in, info_of}
 use Rattle.namenode.specs.Entries.{Entry, Row, Offer, entry_for}
 use Rattle.pool.specs.declared.book.Book.{Book}
 
@@ -11,7 +11,7 @@ pub record View : Type 0 where
   pub token : List ℕ
 
 abbrev pub book_of : Book → View
-book_of b = record { entry = entry_for b.stamp b.size (vec_items b.nodes); token = held b.token.message }
+book_of b = record { entry = entry_for b.stamp b.size (vec_items b.nodes); token = octets_in b.token.message }
 
 -- the next stamp; there is none after the last of 64 bits
 abbrev pub stamp_after : ℕ → Option ℕ
@@ -33,7 +33,7 @@ with_entry v new = record { entry = new; token = v.token }
 
 -- a datanode as it is handed out
 abbrev pub row_for : Datanode → Row
-row_for d = record { info = info_of d; storage = held d.storage_id; kind = d.storage_type }
+row_for d = record { info = info_of d; storage = octets_in d.storage_id; kind = d.storage_type }
 
 -- a list as it is handed out, with the token
 abbrev pub offer_with : List ℕ → List Datanode → Offer

@@ -1,6 +1,6 @@
 //! How the block's entry is made, read and replaced. Only the making takes memory.
 ghost use Rattle.std.specs.Prelude.{◌≡◌, ◌≤◌, map, length, is_ok, IfOk, if◌then◌else◌, vec_len, vec_capacity, nat_le};
-ghost use Rattle.proto.specs.Messages.{held, id_of};
+ghost use Rattle.proto.specs.Messages.{octets_in, id_of};
 ghost use Rattle.namenode.specs.Entries.{entry_for};
 ghost use Rattle.pool.specs.Books.{book_of, stamp_after, room_for, accepts, with_entry};
 
@@ -38,7 +38,7 @@ impl Book {
         nodes: &[Datanode],
         token: Token,
     ) -> Result<Book, AllocError>
-        ensures { IfOk result (λ b. book_of b ≡ record { entry = entry_for stamp size nodes.now; token = held token.message }) }
+        ensures { IfOk result (λ b. book_of b ≡ record { entry = entry_for stamp size nodes.now; token = octets_in token.message }) }
     {
         let mut kept = Vec::with_capacity(heap, PLACES)?;
         kept.extend_from_slice(nodes)?;

@@ -1,6 +1,6 @@
 //! A namenode that keeps the entry of one block.
 ghost use Rattle.std.specs.Prelude.{◌≡◌, [], Some, IfOk};
-ghost use Rattle.proto.specs.Messages.{held};
+ghost use Rattle.proto.specs.Messages.{octets_in};
 ghost use Rattle.namenode.specs.Entries.{entry_for, row_of};
 ghost use Rattle.pool.specs.Books.{book_of, offer_with, row_for};
 ghost use Rattle.pool.specs.Houses.{house_of, Stamps, Updates};
@@ -39,7 +39,7 @@ impl MemoryNamenode<NoSpares> {
         nodes: &[Datanode],
         token: Token,
     ) -> Result<House, AllocError>
-        ensures { IfOk result (λ h. house_of h ≡ record { entry = entry_for stamp size nodes.now; token = held token.message }) }
+        ensures { IfOk result (λ h. house_of h ≡ record { entry = entry_for stamp size nodes.now; token = octets_in token.message }) }
     {
         Ok(MemoryNamenode {
             book: Book::new(heap, stamp, size, nodes, token)?,
@@ -58,7 +58,7 @@ impl MemoryNamenode<SpareDatanodes> {
         token: Token,
         spares: &[Datanode],
     ) -> Result<Pool, AllocError>
-        ensures { IfOk result (λ p. pool_of p ≡ record { book = record { entry = entry_for stamp size nodes.now; token = held token.message }; spares = spares.now; offered = [] }) }
+        ensures { IfOk result (λ p. pool_of p ≡ record { book = record { entry = entry_for stamp size nodes.now; token = octets_in token.message }; spares = spares.now; offered = [] }) }
     {
         let book = Book::new(heap, stamp, size, nodes, token)?;
         let spares = SpareDatanodes::new(heap, spares)?;

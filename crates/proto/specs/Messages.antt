@@ -8,12 +8,12 @@ use Rattle.proto.specs.declared.datanode.Datanode.{Datanode}
 use Rattle.proto.specs.declared.fixed.Fixed.{Fixed}
 
 -- the octets that a fixed memory holds
-abbrev pub held : {n : ℕ} → Fixed n → List ℕ
-held f = take f.len f.octets
+abbrev pub octets_in : {n : ℕ} → Fixed n → List ℕ
+octets_in f = take f.len f.octets
 
 -- what a datanode's message says of it
 abbrev pub info_of : Datanode → List ℕ
-info_of d = held d.info
+info_of d = octets_in d.info
 
 abbrev pub id_of : Datanode → List ℕ
 id_of d = part_of 1 (info_of d)
@@ -26,10 +26,10 @@ port_of d = number_of 4 (id_of d)
 
 -- ExtendedBlockProto: poolId, blockId, generationStamp, numBytes
 abbrev pub block_fields : ExtendedBlock → List WireField
-block_fields b = part 1 (held b.pool_id) ∷ varint 2 b.block_id ∷ varint 3 b.generation_stamp ∷ varint 4 b.num_bytes ∷ []
+block_fields b = part 1 (octets_in b.pool_id) ∷ varint 2 b.block_id ∷ varint 3 b.generation_stamp ∷ varint 4 b.num_bytes ∷ []
 
 -- ClientOperationHeaderProto: a BaseHeaderProto of the block and the token, and the client's name
 abbrev pub header_fields : ClientOperationHeader → List WireField
 header_fields h =
-    part 1 (encode_all (part 1 (encode_all (block_fields h.block)) ∷ part 2 (held h.token.now.message) ∷ []))
-    ∷ part 2 (held h.client_name.now) ∷ []
+    part 1 (encode_all (part 1 (encode_all (block_fields h.block)) ∷ part 2 (octets_in h.token.now.message) ∷ []))
+    ∷ part 2 (octets_in h.client_name.now) ∷ []

@@ -34,12 +34,12 @@ pub fn is_node(info: &[u8], storage_id: &[u8], storage_type: u8) -> bool
 }
 
 impl Datanode {
-    ghost use Rattle.proto.specs.Messages.{held, info_of, id_of, ip_of, port_of};
+    ghost use Rattle.proto.specs.Messages.{octets_in, info_of, id_of, ip_of, port_of};
 
     /// The datanode that these octets are, where they, the storage's name and its type, 0 to 127, are in form.
     // An Option: to be out of form is the one way to fail, and each caller has an error of its own for it.
     pub fn new(info: &[u8], storage_id: &[u8], storage_type: u8) -> Option<Datanode>
-        ensures { elim result [ Some d ↦ (is_node info.now storage_id.now storage_type ≡ true) × (held d.info ≡ info.now) × (held d.storage_id ≡ storage_id.now) × (d.storage_type ≡ storage_type) | None ↦ is_node info.now storage_id.now storage_type ≡ false ] }
+        ensures { elim result [ Some d ↦ (is_node info.now storage_id.now storage_type ≡ true) × (octets_in d.info ≡ info.now) × (octets_in d.storage_id ≡ storage_id.now) × (d.storage_type ≡ storage_type) | None ↦ is_node info.now storage_id.now storage_type ≡ false ] }
     {
         if !is_node(info, storage_id, storage_type) {
             return None;
@@ -78,7 +78,7 @@ impl Datanode {
     }
 
     pub fn storage_id(&self) -> &[u8]
-        ensures { result.now ≡ held self.now.storage_id }
+        ensures { result.now ≡ octets_in self.now.storage_id }
     {
         self.storage_id.as_slice()
     }

@@ -1,6 +1,6 @@
 //! The block token that a namenode gives, which every request shows to the datanodes.
 ghost use Rattle.std.specs.Prelude.{◌≡◌, true, false, [], Some, None};
-ghost use Rattle.proto.specs.Messages.{held};
+ghost use Rattle.proto.specs.Messages.{octets_in};
 ghost use Rattle.proto.specs.Rules.{is_token};
 
 use crate::fixed::Fixed;
@@ -17,7 +17,7 @@ impl Token {
     /// No token: that of a writer which never opened, and shows it to nobody.
     // No Option in the writer: an open one always has a token, and only that of a refused opening, closed for good, has this one.
     pub fn none() -> Token
-        ensures { held result.message ≡ [] }
+        ensures { octets_in result.message ≡ [] }
     {
         Token {
             message: Fixed::empty(),
@@ -27,7 +27,7 @@ impl Token {
     /// The token that these octets are, where they are one in form.
     // An Option: to be out of form is the one way to fail, and each caller has an error of its own for it.
     pub fn new(message: &[u8]) -> Option<Token>
-        ensures { elim result [ Some t ↦ (is_token message.now ≡ true) × (held t.message ≡ message.now) | None ↦ is_token message.now ≡ false ] }
+        ensures { elim result [ Some t ↦ (is_token message.now ≡ true) × (octets_in t.message ≡ message.now) | None ↦ is_token message.now ≡ false ] }
     {
         if !conforms(&TOKEN, message) {
             return None;
@@ -38,7 +38,7 @@ impl Token {
     }
 
     pub fn as_bytes(&self) -> &[u8]
-        ensures { result.now ≡ held self.now.message }
+        ensures { result.now ≡ octets_in self.now.message }
     {
         self.message.as_slice()
     }

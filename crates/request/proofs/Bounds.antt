@@ -12,11 +12,11 @@ use Rattle.request.specs.declared.parts.Construction.{Construction}
 use Rattle.request.specs.declared.parts.Storages.{Storages}
 use Rattle.request.specs.declared.transfer_block.TransferBlock.{TransferBlock}
 use Rattle.request.specs.declared.write_block.WriteBlock.{WriteBlock}
-use Rattle.proto.specs.Messages.{held, info_of, block_fields, header_fields}
+use Rattle.proto.specs.Messages.{octets_in, info_of, block_fields, header_fields}
 use Rattle.request.specs.Requests.{checksum_fields, construction_fields, construction_of, storage_fields, write_fields, transfer_fields}
 use Rattle.request.specs.Stages.{stage_number}
 
-pub held_bound : {n : ℕ} (f : Fixed n) → length (held f) ≤ n
+pub held_bound : {n : ℕ} (f : Fixed n) → length (octets_in f) ≤ n
 held_bound f = omega (arith, length-take f.len f.octets, f.within)
 
 pub block_bound : (b : ExtendedBlock) → length (encode_all (block_fields b)) ≤ 100
@@ -25,7 +25,7 @@ block_bound b =
     let i = b.block_id in
     let g = b.generation_stamp in
     let n = b.num_bytes in
-    let p = held b.pool_id in
+    let p = octets_in b.pool_id in
     omega (
       arith,
       all_length (part 1 p) (varint 2 i ∷ varint 3 g ∷ varint 4 n ∷ []),
@@ -43,8 +43,8 @@ pub header_bound : (h : ClientOperationHeader) → length (encode_all (header_fi
 unfolding varint_bytes
 header_bound h =
     let k = encode_all (block_fields h.block) in
-    let t = held h.token.now.message in
-    let u = held h.client_name.now in
+    let t = octets_in h.token.now.message in
+    let u = octets_in h.client_name.now in
     let b = encode_all (part 1 k ∷ part 2 t ∷ []) in
     let inner : length b ≤ 1130 = omega (
       arith,
@@ -114,10 +114,10 @@ storage_bound : (s : Storages) → length s.targets.now ≤ 7 → length (encode
 unfolding varint_bytes
 storage_bound s few =
     let n = s.first.now.storage_type in
-    let i = held s.first.now.storage_id in
+    let i = octets_in s.first.now.storage_id in
     let ts = s.targets.now in
     let types = map (λ (d : Datanode). varint 12 d.storage_type) ts in
-    let ids = map (λ (d : Datanode). part 17 (held d.storage_id)) ts in
+    let ids = map (λ (d : Datanode). part 17 (octets_in d.storage_id)) ts in
     omega (
       arith,
       all_length (varint 11 n) (types ++ (part 16 i ∷ ids)),
@@ -126,7 +126,7 @@ storage_bound s few =
       number_bound 11 1 n refl,
       part_bound 16 2 64 i refl (held_bound s.first.now.storage_id) (omega arith),
       seven (length ts) 11 (length (encode_all types)) few (rows_bound (λ (d : Datanode). varint 12 d.storage_type) 11 (λ d. number_bound 12 1 d.storage_type refl) ts),
-      seven (length ts) 68 (length (encode_all ids)) few (rows_bound (λ (d : Datanode). part 17 (held d.storage_id)) 68 (λ d. part_bound 17 2 64 (held d.storage_id) refl (held_bound d.storage_id) (omega arith)) ts),
+      seven (length ts) 68 (length (encode_all ids)) few (rows_bound (λ (d : Datanode). part 17 (octets_in d.storage_id)) 68 (λ d. part_bound 17 2 64 (octets_in d.storage_id) refl (held_bound d.storage_id) (omega arith)) ts),
     )
 
 pub write_bound : (w : WriteBlock) → length w.targets.now ≤ 7 → length (encode_all (write_fields w)) ≤ 3728

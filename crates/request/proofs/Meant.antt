@@ -10,7 +10,7 @@ use Rattle.wire.proofs.Back.{varint_back}
 use Rattle.wire.proofs.Encoded.{part_octets}
 use Rattle.wire.proofs.Found.{decoded_is, rows_skipped, part_found, number_found, sound_join, sound_rows}
 use Rattle.proto.specs.declared.datanode.Datanode.{Datanode}
-use Rattle.proto.specs.Messages.{held, info_of, block_fields, header_fields}
+use Rattle.proto.specs.Messages.{octets_in, info_of, block_fields, header_fields}
 use Rattle.request.specs.declared.setup.Setup.{Setup}
 use Rattle.request.specs.declared.stage.Stage.{Stage}
 use Rattle.request.specs.declared.stage.Stage.TheVariants.{SetupAppend, SetupStreamingRecovery, SetupCreate}
@@ -51,7 +51,7 @@ module _ (w : WriteBlock) (fit : Widths w) where
   block = encode_all (block_fields w.header.block)
 
   abbrev base_fields : List WireField
-  base_fields = part 1 block ∷ part 2 (held w.header.token.now.message) ∷ []
+  base_fields = part 1 block ∷ part 2 (octets_in w.header.token.now.message) ∷ []
 
   block_sound : AllSound (block_fields w.header.block)
   block_sound = ((refl, omega (arith, held_bound w.header.block.pool_id)), ((refl, fit.id), ((refl, fit.stamp), ((refl, fit.bytes), tt))))
@@ -62,7 +62,7 @@ module _ (w : WriteBlock) (fit : Widths w) where
   header_sound : AllSound (header_fields w.header)
   header_sound =
       let base = encode_all base_fields in
-      let name = part 2 (held w.header.client_name.now) in
+      let name = part 2 (octets_in w.header.client_name.now) in
       ((refl, omega (arith, header_bound w.header, all_length (part 1 base) (name ∷ []), part_within 1 base)), ((refl, omega (arith, held_bound w.header.client_name.now)), tt))
 
   checksum_sound : AllSound (checksum_fields w.chunk_size)
@@ -79,10 +79,10 @@ module _ (w : WriteBlock) (fit : Widths w) where
       let k = encode_all (checksum_fields w.chunk_size) in
       let infos = map (λ (d : Datanode). part 2 (info_of d)) ts in
       let types = map (λ (d : Datanode). varint 12 d.storage_type) ts in
-      let id = part 16 (held w.first.now.storage_id) in
-      let ids = map (λ (d : Datanode). part 17 (held d.storage_id)) ts in
+      let id = part 16 (octets_in w.first.now.storage_id) in
+      let ids = map (λ (d : Datanode). part 17 (octets_in d.storage_id)) ts in
       let rest = part 9 k ∷ (varint 11 w.first.now.storage_type ∷ (types ++ (id ∷ ids))) in
-      let ids-sound : AllSound ids = sound_rows (λ (d : Datanode). part 17 (held d.storage_id)) (λ d. (refl, omega (arith, held_bound d.storage_id))) ts in
+      let ids-sound : AllSound ids = sound_rows (λ (d : Datanode). part 17 (octets_in d.storage_id)) (λ d. (refl, omega (arith, held_bound d.storage_id))) ts in
       let id-sound : Sound id = (refl, omega (arith, held_bound w.first.now.storage_id)) in
       let last : AllSound (types ++ (id ∷ ids)) = sound_join types (id ∷ ids) (types_sound ts fit.others) (id-sound, ids-sound) in
       let rest-sound : AllSound rest = ((refl, omega (arith, checksum_bound w.chunk_size)), ((refl, omega (arith, fit.first)), last)) in
@@ -125,14 +125,14 @@ module _ (w : WriteBlock) (fit : Widths w) where
       let h = encode_all (header_fields w.header) in
       let k = encode_all (checksum_fields w.chunk_size) in
       let types = map (λ (d : Datanode). varint 12 d.storage_type) ts in
-      let id = part 16 (held w.first.now.storage_id) in
-      let ids = map (λ (d : Datanode). part 17 (held d.storage_id)) ts in
+      let id = part 16 (octets_in w.first.now.storage_id) in
+      let ids = map (λ (d : Datanode). part 17 (octets_in d.storage_id)) ts in
       let rest = construction_fields (construction_of w) ++ (part 9 k ∷ (varint 11 w.first.now.storage_type ∷ (types ++ (id ∷ ids)))) in
       let all = asked (stamp_in h) (number_of 1 k) (number_of 2 k) in
       rows_skipped merge_setup (λ (d : Datanode). part 2 (info_of d)) (begun (stamp_in h)) (λ d. refl) ts rest
       ∙ rows_skipped merge_setup (λ (d : Datanode). varint 12 d.storage_type) all (λ d. refl) ts (id ∷ ids)
       ∙ ap (merge_all merge_setup all) (sym (append-nil ids))
-      ∙ rows_skipped merge_setup (λ (d : Datanode). part 17 (held d.storage_id)) all (λ d. refl) ts []
+      ∙ rows_skipped merge_setup (λ (d : Datanode). part 17 (octets_in d.storage_id)) all (λ d. refl) ts []
       ∙ (λ i. Ok (asked (stamp_is i) (type_is i) (chunk_is i)))
 
   pub read_as_meant : setup_of (framed 80 (encode_all (write_fields w))) ≡ Some (setup_for w)

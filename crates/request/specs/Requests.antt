@@ -6,7 +6,7 @@ use Rattle.request.specs.declared.parts.Construction.{Construction}
 use Rattle.request.specs.declared.parts.Storages.{Storages}
 use Rattle.request.specs.declared.transfer_block.TransferBlock.{TransferBlock}
 use Rattle.request.specs.declared.write_block.WriteBlock.{WriteBlock}
-use Rattle.proto.specs.Messages.{held, info_of, header_fields}
+use Rattle.proto.specs.Messages.{octets_in, info_of, header_fields}
 use Rattle.request.specs.Stages.{stage_number}
 
 -- ChecksumProto: CRC-32C is type 2, over chunks of so many bytes
@@ -32,7 +32,7 @@ abbrev pub storage_fields : Storages → List WireField
 storage_fields s =
     varint 11 s.first.now.storage_type
     ∷ (map (λ d. varint 12 d.storage_type) s.targets.now
-    ++ (part 16 (held s.first.now.storage_id) ∷ map (λ d. part 17 (held d.storage_id)) s.targets.now))
+    ++ (part 16 (octets_in s.first.now.storage_id) ∷ map (λ d. part 17 (octets_in d.storage_id)) s.targets.now))
 
 -- OpWriteBlockProto: header, targets, the five numbers, requestedChecksum, the storages
 abbrev pub write_fields : WriteBlock → List WireField

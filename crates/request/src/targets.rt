@@ -1,7 +1,7 @@
 //! The datanodes after the first of a pipeline, as repeated fields of a request.
 ghost use Rattle.std.specs.Prelude.{ℕ};
 ghost use Rattle.wire.specs.Fields.{varint, part};
-ghost use Rattle.proto.specs.Messages.{held, info_of};
+ghost use Rattle.proto.specs.Messages.{octets_in, info_of};
 
 use proto::datanode::Datanode;
 use wire::encode::{Bytes, OneField, Uint};
@@ -44,7 +44,7 @@ impl RowField<Datanode> for TargetStorageType {
 pub struct TargetStorageId;
 
 impl RowField<Datanode> for TargetStorageId {
-    ghost field = { λ d. part 17 (held d.storage_id) };
+    ghost field = { λ d. part 17 (octets_in d.storage_id) };
 
     fn field_of(row: &Datanode) -> OneField<'_> {
         OneField::Bytes(Bytes {

@@ -14,7 +14,7 @@ use Rattle.writer.specs.declared.recover.Recovered.{Recovered}
 use Rattle.writer.specs.declared.refusal.Refusal.{Refusal}
 use Rattle.writer.specs.declared.state.Writer.{Writer}
 use Rattle.writer.specs.declared.write.Written.{Written}
-use Rattle.writer.specs.Admits.{refusal_for, lens_of}
+use Rattle.writer.specs.Admits.{refusal_for, lengths_of}
 use Rattle.writer.specs.Beating.{Beats}
 use Rattle.writer.specs.Finishing.{finish_refusal, Finishes}
 use Rattle.writer.specs.Heeding.{Heeds}
@@ -81,14 +81,14 @@ module _ {C N : Type 0} (sets : C → Datanode → List ℕ → ℕ → Option (
 
   -- the writer's own store has the length that was settled, so that a call on another is refused
   module _ (q : Point C N) (i : Invariant q) where
-    refused : (given frame request answer : List ℕ) (c : Call) → length given ≢ length q.store → refusal_for (view_of q.writer) c (lens_of given frame request answer) ≡ None → ⊥
-    refused given frame request answer c ne e = refused_store (view_of q.writer) c (lens_of given frame request answer) (λ is. ne (is ∙ sym i.holds.store_len)) e
+    refused : (given frame request answer : List ℕ) (c : Call) → length given ≢ length q.store → refusal_for (view_of q.writer) c (lengths_of given frame request answer) ≡ None → ⊥
+    refused given frame request answer c ne e = refused_store (view_of q.writer) c (lengths_of given frame request answer) (λ is. ne (is ∙ sym i.holds.store_len)) e
 
     heeds_step : (given frame request answer answer' store' : List ℕ) (r : Result Heeded Refusal) (w : Writer) (c : C) → Lends q.store store' given given
-        → Heeds nexts (refusal_for (view_of q.writer) call.Heed (lens_of given frame request answer)) (view_of q.writer) q.link answer r (view_of w) c answer'
+        → Heeds nexts (refusal_for (view_of q.writer) call.Heed (lengths_of given frame request answer)) (view_of q.writer) q.link answer r (view_of w) c answer'
         → Invariant (record { history = heard q.history (seen q.link).pending (seen c).pending r; writer = w; store = store'; link = c; namenode = q.namenode })
     heeds_step given frame request answer answer' store' r w c lends d =
-        let l = lens_of given frame request answer in
+        let l = lengths_of given frame request answer in
         let h = heard q.history (seen q.link).pending (seen c).pending r in
         let k = heard_keeps nexts seen answering q.history (refusal_for (view_of q.writer) call.Heed l) (view_of q.writer) (view_of w) q.store answer answer' q.link c r (listens_heed (view_of q.writer) l) (fit q i) i.holds d in
         from_keeps q i h w store' c refl (subst (λ (s : List ℕ). Keeps h (view_of q.writer) (view_of w) s (seen c)) (sym (read_only lends)) k)
@@ -105,10 +105,10 @@ module _ {C N : Type 0} (sets : C → Datanode → List ℕ → ℕ → Option (
     unrecovered (Some e) never given time s t r w el en d = rw (d.1, d.2, el, en) (record { holds = i.holds; entered = i.entered; terms = refl })
 
     recovers_step : (time : ℕ) (given frame frame' request request' answer answer' store' : List ℕ) (r : Result Recovered Refusal) (w : Writer) (c : C) (n : N) → Lends q.store store' given given
-        → (d : Recovers sets puts transfers lists stamps updates (refusal_for (view_of q.writer) call.Recover (lens_of given frame request answer)) (view_of q.writer) given time (record { link = q.link; namenode = q.namenode; frame = frame; request = request; answer = answer }) r (view_of w) (record { link = c; namenode = n; frame = frame'; request = request'; answer = answer' }))
-        → Invariant (record { history = rebuilt q.history (set_in sets puts transfers lists stamps updates (view_of q.writer) given time r (view_of w) (record { link = c; namenode = n; frame = frame'; request = request'; answer = answer' }) (refusal_for (view_of q.writer) call.Recover (lens_of given frame request answer)) (record { link = q.link; namenode = q.namenode; frame = frame; request = request; answer = answer }) d); writer = w; store = store'; link = c; namenode = n })
+        → (d : Recovers sets puts transfers lists stamps updates (refusal_for (view_of q.writer) call.Recover (lengths_of given frame request answer)) (view_of q.writer) given time (record { link = q.link; namenode = q.namenode; frame = frame; request = request; answer = answer }) r (view_of w) (record { link = c; namenode = n; frame = frame'; request = request'; answer = answer' }))
+        → Invariant (record { history = rebuilt q.history (set_in sets puts transfers lists stamps updates (view_of q.writer) given time r (view_of w) (record { link = c; namenode = n; frame = frame'; request = request'; answer = answer' }) (refusal_for (view_of q.writer) call.Recover (lengths_of given frame request answer)) (record { link = q.link; namenode = q.namenode; frame = frame; request = request; answer = answer }) d); writer = w; store = store'; link = c; namenode = n })
     recovers_step time given frame frame' request request' answer answer' store' r w c n lends d =
-        let l = lens_of given frame request answer in
+        let l = lengths_of given frame request answer in
         let v = view_of q.writer in
         let s : Site C N = record { link = q.link; namenode = q.namenode; frame = frame; request = request; answer = answer } in
         let t : Site C N = record { link = c; namenode = n; frame = frame'; request = request'; answer = answer' } in
@@ -139,10 +139,10 @@ module _ {C N : Type 0} (sets : C → Datanode → List ℕ → ℕ → Option (
       unbeaten (Some e) never time r u d = kept_by u d.1
 
     writes_step : (bytes given given' frame frame' request answer store' : List ℕ) (r : Result Written Refusal) (w : Writer) (c : C) → Lends q.store store' given given'
-        → Wrote puts (refusal_for (view_of q.writer) call.Write (lens_of given frame request answer)) (record { view = view_of q.writer; store = given; frame = frame; link = q.link }) bytes r (record { view = view_of w; store = given'; frame = frame'; link = c })
+        → Wrote puts (refusal_for (view_of q.writer) call.Write (lengths_of given frame request answer)) (record { view = view_of q.writer; store = given; frame = frame; link = q.link }) bytes r (record { view = view_of w; store = given'; frame = frame'; link = c })
         → Invariant (record { history = wrote q.history bytes r; writer = w; store = store'; link = c; namenode = q.namenode })
     writes_step bytes given given' frame frame' request answer store' r w c lends d =
-        let l = lens_of given frame request answer in
+        let l = lengths_of given frame request answer in
         let v = view_of q.writer in
         let o = refusal_for v call.Write l in
         let h = wrote q.history bytes r in
@@ -172,10 +172,10 @@ module _ {C N : Type 0} (sets : C → Datanode → List ℕ → ℕ → Option (
         (lent lends)
 
     beats_step : (time : ℕ) (given frame frame' request answer store' : List ℕ) (r : Result Beat Refusal) (w : Writer) (c : C) → Lends q.store store' given given
-        → Beats puts (refusal_for (view_of q.writer) call.Beat (lens_of given frame request answer)) (record { view = view_of q.writer; store = given; frame = frame; link = q.link }) time r (record { view = view_of w; store = given; frame = frame'; link = c })
+        → Beats puts (refusal_for (view_of q.writer) call.Beat (lengths_of given frame request answer)) (record { view = view_of q.writer; store = given; frame = frame; link = q.link }) time r (record { view = view_of w; store = given; frame = frame'; link = c })
         → Invariant (record { history = q.history; writer = w; store = store'; link = c; namenode = q.namenode })
     beats_step time given frame frame' request answer store' r w c lends d =
-        let l = lens_of given frame request answer in
+        let l = lengths_of given frame request answer in
         let v = view_of q.writer in
         let p : Place C = record { view = v; store = given; frame = frame; link = q.link } in
         let u : Place C = record { view = view_of w; store = given; frame = frame'; link = c } in
@@ -184,10 +184,10 @@ module _ {C N : Type 0} (sets : C → Datanode → List ℕ → ℕ → Option (
         (λ other. unbeaten p refl refl (refusal_for v call.Beat l) (refused given frame request answer call.Beat other) time r u d)
 
     finishes_step : (given frame frame' request answer store' : List ℕ) (r : Result Finished Refusal) (w : Writer) (c : C) → Lends q.store store' given given
-        → Finishes puts (finish_refusal (view_of q.writer) (lens_of given frame request answer)) (record { view = view_of q.writer; store = given; frame = frame; link = q.link }) r (record { view = view_of w; store = given; frame = frame'; link = c })
+        → Finishes puts (finish_refusal (view_of q.writer) (lengths_of given frame request answer)) (record { view = view_of q.writer; store = given; frame = frame; link = q.link }) r (record { view = view_of w; store = given; frame = frame'; link = c })
         → Invariant (record { history = q.history; writer = w; store = store'; link = c; namenode = q.namenode })
     finishes_step given frame frame' request answer store' r w c lends d =
-        let l = lens_of given frame request answer in
+        let l = lengths_of given frame request answer in
         let v = view_of q.writer in
         let p : Place C = record { view = v; store = given; frame = frame; link = q.link } in
         let u : Place C = record { view = view_of w; store = given; frame = frame'; link = c } in

@@ -1,7 +1,7 @@
 -- A call that is not refused: in which state it finds the writer, and that the store is the writer's own. Assumes nothing.
 use Rattle.std.proofs.Common.{◌≡◌, ◌≢◌, ◌+◌, ◌<◌, None, refl, ◌∙◌}
 use Rattle.writer.specs.declared.admit.Call.TheVariants as call
-use Rattle.writer.specs.declared.admit.Lens.{Lens}
+use Rattle.writer.specs.declared.admit.Lengths.{Lengths}
 use Rattle.writer.specs.declared.state.kind.State.{State}
 use Rattle.writer.specs.declared.state.kind.State.TheVariants.{Streaming, Finishing, Broken, Complete, Closed}
 use Rattle.writer.specs.Admits.{by_state, refusal_for}
@@ -24,16 +24,16 @@ beat_as_finish (Broken cause finished) = refl
 beat_as_finish Complete = refl
 beat_as_finish Closed = refl
 
-pub streams_write : (v : View) (l : Lens) → refusal_for v call.Write l ≡ None → v.state ≡ Streaming
+pub streams_write : (v : View) (l : Lengths) → refusal_for v call.Write l ≡ None → v.state ≡ Streaming
 streams_write v l e = streams_finish v.state (write_as_finish v.state ∙ fits_state v call.Write l e)
 
-pub streams_beat : (v : View) (l : Lens) → refusal_for v call.Beat l ≡ None → v.state ≡ Streaming
+pub streams_beat : (v : View) (l : Lengths) → refusal_for v call.Beat l ≡ None → v.state ≡ Streaming
 streams_beat v l e = streams_finish v.state (beat_as_finish v.state ∙ fits_state v call.Beat l e)
 
 -- and the closing packets have places
-pub streams_end : (v : View) (l : Lens) → finish_refusal v l ≡ None → (v.state ≡ Streaming) × (v.count + closing_packets v < v.terms.slots)
+pub streams_end : (v : View) (l : Lengths) → finish_refusal v l ≡ None → (v.state ≡ Streaming) × (v.count + closing_packets v < v.terms.slots)
 streams_end v l e = let both = finishes_fit v l e in (streams_finish v.state (fits_state v call.Finish l both.0), both.1)
 
 -- a store of another length is refused
-pub refused_store_end : (v : View) (l : Lens) → l.store ≢ v.terms.store_len → finish_refusal v l ≡ None → ⊥
+pub refused_store_end : (v : View) (l : Lengths) → l.store ≢ v.terms.store_len → finish_refusal v l ≡ None → ⊥
 refused_store_end v l other e = refused_store v call.Finish l other (finishes_fit v l e).0

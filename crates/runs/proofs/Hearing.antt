@@ -12,7 +12,7 @@ use Rattle.chain.specs.Acts.{Came, nothing, lost, answer}
 use Rattle.chain.specs.Meaning.{Seen, Passes, Nexts}
 use Rattle.sending.specs.Asking.{heard_in, heard_of}
 use Rattle.writer.specs.declared.admit.Call.TheVariants as call
-use Rattle.writer.specs.declared.admit.Lens.{Lens}
+use Rattle.writer.specs.declared.admit.Lengths.{Lengths}
 use Rattle.writer.specs.declared.cause.Cause.TheVariants.{Link, Replies, Decoding}
 use Rattle.writer.specs.declared.heed.Decision.{Decision}
 use Rattle.writer.specs.declared.heed.Decision.TheVariants as decision
@@ -92,7 +92,7 @@ module _ {C : Type 0} (nexts : C → Came → C → Type 0) (seen : C → Seen) 
       rw (d.result, d.writer, is) k
 
 -- which states listen
-pub listens_heed : (v : View) (l : Lens) → refusal_for v call.Heed l ≡ None → listens v.state ≡ true
+pub listens_heed : (v : View) (l : Lengths) → refusal_for v call.Heed l ≡ None → listens v.state ≡ true
 listens_heed v l e = in_state v.state (by_room v.terms l) e
   where
     in_state : (s : State) (o : Option Refusal) → or_else (by_state s call.Heed) o ≡ None → listens s ≡ true

@@ -6,7 +6,7 @@ use Rattle.held.proofs.Packets.{whole_long}
 use Rattle.chain.specs.Meaning.{Seen}
 use Rattle.namenode.specs.Entries.{Entry}
 use Rattle.proto.specs.declared.datanode.Datanode.{Datanode}
-use Rattle.proto.specs.Messages.{held, id_of}
+use Rattle.proto.specs.Messages.{octets_in, id_of}
 use Rattle.writer.specs.declared.state.Writer.{Writer}
 use Rattle.writer.specs.declared.state.kind.State.{State}
 use Rattle.writer.specs.declared.state.kind.State.TheVariants.{Streaming, Finishing, Broken, Complete, Closed}
@@ -93,7 +93,7 @@ IsOpen Closed = ⊥
 pub record Named (stamp : ℕ) (chain : List Datanode) (e : Entry) : Type 0 where
   pub stamp_is : e.stamp ≡ stamp
   pub ids : e.ids ≡ map id_of chain
-  pub storages : e.storages ≡ map (λ (d : Datanode). held d.storage_id) chain
+  pub storages : e.storages ≡ map (λ (d : Datanode). octets_in d.storage_id) chain
 
 abbrev pub Entered : View → List Datanode → Entry → Type 0
 Entered v chain e = IsOpen v.state → Named v.stamp chain e

@@ -6,17 +6,17 @@ use Rattle.std.specs.Bool.{⊤}
 use Rattle.proto.specs.declared.datanode.Datanode.{Datanode}
 use Rattle.proto.specs.declared.token.Token.{Token}
 use Rattle.request.specs.declared.setup.Setup.{Setup}
-use Rattle.pipeline.specs.declared.set_up.Setting.{Setting}
+use Rattle.pipeline.specs.declared.set_up.SetupRequest.{SetupRequest}
 use Rattle.held.specs.Slots.{slot_of}
 use Rattle.chain.specs.Meaning.{Seen, SetsUp, rebuilt}
 use Rattle.namenode.specs.Entries.{Entry}
 use Rattle.pipeline.specs.Replies.{Reply, reply_of}
 use Rattle.pipeline.specs.SetUps
-use Rattle.writer.specs.declared.admit.Lens.{Lens}
+use Rattle.writer.specs.declared.admit.Lengths.{Lengths}
 use Rattle.writer.specs.declared.opening.Opening.{Opening}
 use Rattle.writer.specs.declared.refusal.Refusal.{Refusal}
 use Rattle.writer.specs.declared.terms.Terms.{Terms}
-use Rattle.writer.specs.Admits.{lens_of}
+use Rattle.writer.specs.Admits.{lengths_of}
 use Rattle.writer.specs.Sizes.{capacity}
 use Rattle.writer.specs.Opening.{Fresh, Started, SetsUpFor, Opens, open_refusal}
 use Rattle.writer.specs.Views.{View, view_of, next_of, filling_in}
@@ -41,12 +41,12 @@ module _ {C : Type 0} (sets : C → Datanode → List ℕ → ℕ → Option (Li
   answered_anew a b node request least None u e act = absurd (ok_lost _ _ e)
   answered_anew a b node request least (Some response) u e act = let d = setting a b node request least (Some response) act in record { setup = d.setup; is = d.is }
 
-  pub set_up_anew : (s : Setting) (nodes : List Datanode) (a b : C) (request request' answer answer' : List ℕ) (u : ⊤)
+  pub set_up_anew : (s : SetupRequest) (nodes : List Datanode) (a b : C) (request request' answer answer' : List ℕ) (u : ⊤)
       → SetUps.SetsUp sets s nodes a request request' answer answer' (Ok u) b → Anew s.min_bytes a b
   set_up_anew s nodes a b request request' answer answer' u d = answered_anew a b d.message.first.now (SetUps.octets_of d.message) s.min_bytes d.reply.came u d.reply.is d.reply.acted
 
 -- a writer that has taken nothing yet
-fresh_holds : (o : Opening) (l : Lens) (shown : Token) (chain nodes : List Datanode) (v : View) (store : List ℕ) (x y : Seen) (setup : Setup) → l.store ≡ length store
+fresh_holds : (o : Opening) (l : Lengths) (shown : Token) (chain nodes : List Datanode) (v : View) (store : List ℕ) (x y : Seen) (setup : Setup) → l.store ≡ length store
     → Fresh o l shown chain v → length x.kept ≡ o.initial_len → y ≡ rebuilt setup o.initial_len x → Holds (begun x.kept nodes) v store y
 fresh_holds o l shown chain nodes v store x y setup long f initial is =
     let kept : y.kept ≡ x.kept = ap (λ (z : Seen). z.kept) is ∙ take_all o.initial_len x.kept (omega (arith, initial)) in
@@ -64,7 +64,7 @@ fresh_holds o l shown chain nodes v store x y setup long f initial is =
 
 module _ {C N : Type 0} (sets : C → Datanode → List ℕ → ℕ → Option (List ℕ) → C → Type 0) (seen : C → Seen) (entry : N → Entry)
     (setting : (a b : C) (node : Datanode) (request : List ℕ) (least : ℕ) (came : Option (List ℕ)) → sets a node request least came b → SetsUp request least came (seen a) (seen b)) where
-  module _ (o : Opening) (l : Lens) (a b : C) (nodes : List Datanode) (v : View) (store : List ℕ) (long : l.store ≡ length store) (initial : length (seen a).kept ≡ o.initial_len) where
+  module _ (o : Opening) (l : Lengths) (a b : C) (nodes : List Datanode) (v : View) (store : List ℕ) (long : l.store ≡ length store) (initial : length (seen a).kept ≡ o.initial_len) where
     record Began : Type 0 where
       holds : Holds (begun (seen a).kept nodes) v store (seen b)
       stamp : v.stamp ≡ o.stamp
@@ -72,7 +72,7 @@ module _ {C N : Type 0} (sets : C → Datanode → List ℕ → ℕ → Option (
     of_reply : (request request' answer answer' : List ℕ) (reply : Reply) (token : Token) (terms : Terms) (chain : List Datanode)
         → SetsUpFor sets o terms token chain a request request' answer answer' reply b → Started reply o l token chain None v → Began
     of_reply request request' answer answer' (Ok u) token terms chain d s =
-        let n = set_up_anew sets seen setting d.setting chain a b request request' answer answer' u d.sets_up in
+        let n = set_up_anew sets seen setting d.wanted chain a b request request' answer answer' u d.sets_up in
         record {
           holds = fresh_holds o l token chain nodes v store (seen a) (seen b) n.setup long s.1 initial (n.is ∙ ap (λ (k : ℕ). rebuilt n.setup k (seen a)) d.settles.of_least);
           stamp = s.1.stamp;
@@ -86,6 +86,6 @@ module _ {C N : Type 0} (sets : C → Datanode → List ℕ → ℕ → Option (
   pub opened : (o : Opening) (link : C) (p : Point C N) → Begins sets seen entry o link p
       → Holds p.history (view_of p.writer) p.store (seen p.link) × Entered (view_of p.writer) p.history.chain (entry p.namenode)
   opened o link p b =
-      let l = lens_of p.store b.frame b.request b.answer in
+      let l = lengths_of p.store b.frame b.request b.answer in
       let k = of_refusal o l link p.link b.nodes (view_of p.writer) p.store refl b.initial b.request b.request' b.answer b.answer' (open_refusal o l) b.opens in
       (rw b.history k.holds, λ z. rw b.history (record { stamp_is = b.stamp ∙ sym k.stamp; ids = b.ids; storages = b.storages }))

@@ -118,7 +118,7 @@ module _ {C N : Type 0} (sets : C → Datanode → List ℕ → ℕ → Option (
         → (d : Builds sets puts transfers lists stamps updates v store time choice chain stamp octets frame s n r w t)
         → Rebuilt (rebuilt h (if_answered d.sets_up.reply.came chain)) v w store (seen t.link) (entry t.namenode)
     builds_keeps choice chain stamp octets frame s n same d =
-        let set = setting s.link d.between _ _ d.setting.min_bytes d.sets_up.reply.came d.sets_up.reply.acted in
+        let set = setting s.link d.between _ _ d.wanted.min_bytes d.sets_up.reply.came d.sets_up.reply.acted in
         answered_keeps d.reply d.sets_up.reply.came choice chain stamp d.token (octets_of d.sets_up.message) frame (seen s.link) d.between n d.sets_up.reply.is
         (subst (λ (m : ℕ). SetsUp (octets_of d.sets_up.message) m d.sets_up.reply.came (seen s.link) (seen d.between)) d.settles.of_least set) same d.then
 

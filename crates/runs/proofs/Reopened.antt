@@ -8,7 +8,7 @@ use Rattle.held.specs.Slots.{packets, bytes_of}
 use Rattle.chain.specs.Meaning.{Seen}
 use Rattle.namenode.specs.Entries.{Entry, entry_for}
 use Rattle.writer.specs.declared.admit.Call.TheVariants as call
-use Rattle.writer.specs.declared.admit.Lens.{Lens}
+use Rattle.writer.specs.declared.admit.Lengths.{Lengths}
 use Rattle.writer.specs.declared.state.kind.State.{State}
 use Rattle.writer.specs.declared.state.kind.State.TheVariants.{Streaming, Finishing, Broken, Complete, Closed}
 use Rattle.writer.specs.Admits.{by_state, refusal_for}
@@ -36,7 +36,7 @@ recovers_broken (Broken cause finished) e = tt
 recovers_broken Complete e = none-some _ (sym e)
 recovers_broken Closed e = none-some _ (sym e)
 
-pub breaks_recover : (v : View) (l : Lens) → refusal_for v call.Recover l ≡ None → IsBrokenState v.state
+pub breaks_recover : (v : View) (l : Lengths) → refusal_for v call.Recover l ≡ None → IsBrokenState v.state
 breaks_recover v l e = recovers_broken v.state (fits_state v call.Recover l e)
 
 broken_so_far : (s : State) (first count : ℕ) (ps : List Packet) → IsBrokenState s → Confirmed s first count ps → Sofar first ps

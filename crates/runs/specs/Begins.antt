@@ -1,12 +1,12 @@
 -- How a run begins: a block is opened without refusal, over a pipeline and a namenode that have what it was opened with. Assumes nothing.
 use Rattle.std.specs.Prelude.{◌≡◌, ℕ, List, length, map, None, Option}
 use Rattle.proto.specs.declared.datanode.Datanode.{Datanode}
-use Rattle.proto.specs.Messages.{held, id_of}
+use Rattle.proto.specs.Messages.{octets_in, id_of}
 use Rattle.chain.specs.Meaning.{Seen}
 use Rattle.namenode.specs.Entries.{Entry}
 use Rattle.pipeline.specs.Offers.{Rows}
 use Rattle.writer.specs.declared.opening.Opening.{Opening}
-use Rattle.writer.specs.Admits.{lens_of}
+use Rattle.writer.specs.Admits.{lengths_of}
 use Rattle.writer.specs.Opening.{rows_in, open_refusal, Opens}
 use Rattle.writer.specs.Views.{view_of}
 use Rattle.runs.specs.History.{begun}
@@ -21,11 +21,11 @@ module _ {C N : Type 0} (sets : C → Datanode → List ℕ → ℕ → Option (
     pub request' : List ℕ
     pub answer : List ℕ
     pub answer' : List ℕ
-    pub opens : Opens sets (open_refusal o (lens_of p.store frame request answer)) o (lens_of p.store frame request answer) link request answer None (view_of p.writer) p.link request' answer'
+    pub opens : Opens sets (open_refusal o (lengths_of p.store frame request answer)) o (lengths_of p.store frame request answer) link request answer None (view_of p.writer) p.link request' answer'
     pub nodes : List Datanode
     pub listed : Rows (rows_in o) nodes
     pub initial : length (seen link).kept ≡ o.initial_len
     pub stamp : (entry p.namenode).stamp ≡ o.stamp
     pub ids : (entry p.namenode).ids ≡ map id_of nodes
-    pub storages : (entry p.namenode).storages ≡ map (λ (d : Datanode). held d.storage_id) nodes
+    pub storages : (entry p.namenode).storages ≡ map (λ (d : Datanode). octets_in d.storage_id) nodes
     pub history : p.history ≡ begun (seen link).kept nodes

@@ -3,7 +3,7 @@ use Rattle.std.specs.Prelude.{◌≡◌, ℕ, suc, Bool, true, false, List, [], 
 use Rattle.packet.specs.Frame.{Packet}
 use Rattle.proto.specs.declared.block.ExtendedBlock.{ExtendedBlock}
 use Rattle.proto.specs.declared.datanode.Datanode.{Datanode}
-use Rattle.proto.specs.Messages.{held, id_of}
+use Rattle.proto.specs.Messages.{octets_in, id_of}
 use Rattle.held.specs.Slots.{bytes_of, below}
 use Rattle.chain.specs.Meaning.{Seen}
 use Rattle.namenode.specs.Entries.{Entry}
@@ -39,7 +39,7 @@ pub record Order (h : History) (x : Seen) (b : ExtendedBlock) : Type 0 where
 pub record Enters (h : History) (e : Entry) (b : ExtendedBlock) : Type 0 where
   pub stamp : e.stamp ≡ b.generation_stamp
   pub ids : e.ids ≡ map id_of h.chain
-  pub storages : e.storages ≡ map (λ (d : Datanode). held d.storage_id) h.chain
+  pub storages : e.storages ≡ map (λ (d : Datanode). octets_in d.storage_id) h.chain
 
 module _ {C N : Type 0} (seen : C → Seen) (entry : N → Entry) where
   -- at every point, and when close gives a record

@@ -13,7 +13,7 @@ use Rattle.writer.specs.declared.recover.Recovered.{Recovered}
 use Rattle.writer.specs.declared.refusal.Refusal.{Refusal}
 use Rattle.writer.specs.declared.state.Writer.{Writer}
 use Rattle.writer.specs.declared.write.Written.{Written}
-use Rattle.writer.specs.Admits.{refusal_for, lens_of}
+use Rattle.writer.specs.Admits.{refusal_for, lengths_of}
 use Rattle.writer.specs.Beating.{Beats}
 use Rattle.writer.specs.Finishing.{finish_refusal, Finishes}
 use Rattle.writer.specs.Heeding.{Heeds}
@@ -46,24 +46,24 @@ module _ {C N : Type 0} (sets : C → Datanode → List ℕ → ℕ → Option (
   pub data Step : Command → Point C N → Outcome → Point C N → Type 0 where
     writes : {q : Point C N} (bytes : Bor (List ℕ)) (given given' frame frame' request answer store' : List ℕ) (r : Result Written Refusal) (w : Writer) (c : C)
         → Lends q.store store' given given'
-        → Wrote puts (refusal_for (view_of q.writer) call.Write (lens_of given frame request answer)) (record { view = view_of q.writer; store = given; frame = frame; link = q.link }) bytes.now r (record { view = view_of w; store = given'; frame = frame'; link = c })
+        → Wrote puts (refusal_for (view_of q.writer) call.Write (lengths_of given frame request answer)) (record { view = view_of q.writer; store = given; frame = frame; link = q.link }) bytes.now r (record { view = view_of w; store = given'; frame = frame'; link = c })
         → Step (command.Write bytes) q (outcome.Wrote r) (record { history = wrote q.history bytes.now r; writer = w; store = store'; link = c; namenode = q.namenode })
     heeds : {q : Point C N} (given frame request answer answer' store' : List ℕ) (r : Result Heeded Refusal) (w : Writer) (c : C)
         → Lends q.store store' given given
-        → Heeds nexts (refusal_for (view_of q.writer) call.Heed (lens_of given frame request answer)) (view_of q.writer) q.link answer r (view_of w) c answer'
+        → Heeds nexts (refusal_for (view_of q.writer) call.Heed (lengths_of given frame request answer)) (view_of q.writer) q.link answer r (view_of w) c answer'
         → Step command.Heed q (outcome.Heard r) (record { history = heard q.history (seen q.link).pending (seen c).pending r; writer = w; store = store'; link = c; namenode = q.namenode })
     beats : {q : Point C N} (time : ℕ) (given frame frame' request answer store' : List ℕ) (r : Result Beat Refusal) (w : Writer) (c : C)
         → Lends q.store store' given given
-        → Beats puts (refusal_for (view_of q.writer) call.Beat (lens_of given frame request answer)) (record { view = view_of q.writer; store = given; frame = frame; link = q.link }) time r (record { view = view_of w; store = given; frame = frame'; link = c })
+        → Beats puts (refusal_for (view_of q.writer) call.Beat (lengths_of given frame request answer)) (record { view = view_of q.writer; store = given; frame = frame; link = q.link }) time r (record { view = view_of w; store = given; frame = frame'; link = c })
         → Step (command.Beat time) q (outcome.Beaten r) (record { history = q.history; writer = w; store = store'; link = c; namenode = q.namenode })
     finishes : {q : Point C N} (given frame frame' request answer store' : List ℕ) (r : Result Finished Refusal) (w : Writer) (c : C)
         → Lends q.store store' given given
-        → Finishes puts (finish_refusal (view_of q.writer) (lens_of given frame request answer)) (record { view = view_of q.writer; store = given; frame = frame; link = q.link }) r (record { view = view_of w; store = given; frame = frame'; link = c })
+        → Finishes puts (finish_refusal (view_of q.writer) (lengths_of given frame request answer)) (record { view = view_of q.writer; store = given; frame = frame; link = q.link }) r (record { view = view_of w; store = given; frame = frame'; link = c })
         → Step command.Finish q (outcome.Ended r) (record { history = q.history; writer = w; store = store'; link = c; namenode = q.namenode })
     recovers : {q : Point C N} (time : ℕ) (given frame frame' request request' answer answer' store' : List ℕ) (r : Result Recovered Refusal) (w : Writer) (c : C) (n : N)
         → Lends q.store store' given given
-        → (d : Recovers sets puts transfers lists stamps updates (refusal_for (view_of q.writer) call.Recover (lens_of given frame request answer)) (view_of q.writer) given time (record { link = q.link; namenode = q.namenode; frame = frame; request = request; answer = answer }) r (view_of w) (record { link = c; namenode = n; frame = frame'; request = request'; answer = answer' }))
-        → Step (command.Recover time) q (outcome.Recovered r) (record { history = rebuilt q.history (set_in sets puts transfers lists stamps updates (view_of q.writer) given time r (view_of w) (record { link = c; namenode = n; frame = frame'; request = request'; answer = answer' }) (refusal_for (view_of q.writer) call.Recover (lens_of given frame request answer)) (record { link = q.link; namenode = q.namenode; frame = frame; request = request; answer = answer }) d); writer = w; store = store'; link = c; namenode = n })
+        → (d : Recovers sets puts transfers lists stamps updates (refusal_for (view_of q.writer) call.Recover (lengths_of given frame request answer)) (view_of q.writer) given time (record { link = q.link; namenode = q.namenode; frame = frame; request = request; answer = answer }) r (view_of w) (record { link = c; namenode = n; frame = frame'; request = request'; answer = answer' }))
+        → Step (command.Recover time) q (outcome.Recovered r) (record { history = rebuilt q.history (set_in sets puts transfers lists stamps updates (view_of q.writer) given time r (view_of w) (record { link = c; namenode = n; frame = frame'; request = request'; answer = answer' }) (refusal_for (view_of q.writer) call.Recover (lengths_of given frame request answer)) (record { link = q.link; namenode = q.namenode; frame = frame; request = request; answer = answer }) d); writer = w; store = store'; link = c; namenode = n })
 
   -- any list of calls, and what each answered
   pub data Run : List Command → Point C N → List Outcome → Point C N → Type 0 where

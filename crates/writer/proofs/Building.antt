@@ -2,11 +2,11 @@
 use Rattle.std.proofs.Common.{◌≡◌, ℕ, Bool, List, Ok, Err, Option, Result, sym, refl, ap, ◌∙◌, subst, arith}
 use Rattle.proto.specs.declared.datanode.Datanode.{Datanode}
 use Rattle.proto.specs.declared.token.Token.{Token}
-use Rattle.proto.specs.Messages.{held}
+use Rattle.proto.specs.Messages.{octets_in}
 use Rattle.request.specs.declared.stage.Stage.TheVariants.{SetupStreamingRecovery}
 use Rattle.namenode.specs.Entries.{Entry, Ask, Offer}
 use Rattle.pipeline.specs.Replies.{Reply}
-use Rattle.pipeline.specs.declared.set_up.Setting.{Setting}
+use Rattle.pipeline.specs.declared.set_up.SetupRequest.{SetupRequest}
 use Rattle.pipeline.specs.Channels.{Line}
 use Rattle.writer.specs.declared.recover.Recovered.{Recovered}
 use Rattle.writer.specs.declared.recovery.SetUp.{SetUp}
@@ -31,9 +31,9 @@ module _ {L N : Type 0} (sets : L → Datanode → List ℕ → ℕ → Option (
   err_reply (Ok _) least stamp x e v store time choice chain token frame a n r w t er ew ef el en = absurd (let z : ◌≡◌ {A = ℕ} 0 1 = cc in omega arith)
   err_reply (Err why) least stamp x e v store time choice chain token frame a n r w t er ew ef el en = let z : x ≡ refusal.Recovery why = cc in ((er ∙ ap Err z, ew), ef, el, en)
 
-  module _ (v : View) (store : List ℕ) (time : ℕ) (choice : Option (ℕ × ℕ)) (chain : List Datanode) (least stamp : ℕ) (octets frame : List ℕ) (s : Line L) (n : N) (token : Token) (r : Result Recovered Refusal) (w : View) (t : Site L N) (b : L) (given : held token.message ≡ octets) (counted : least ≡ least_of v) where
-    settled : (setting : Setting) → Settles (record_of v) token v.terms.client_name SetupStreamingRecovery least v.len stamp (chunk_of v) setting → Settles (record_of v) token v.terms.client_name SetupStreamingRecovery (least_of v) v.len stamp (chunk_of v) setting
-    settled setting x = subst (λ (m : ℕ). Settles (record_of v) token v.terms.client_name SetupStreamingRecovery m v.len stamp (chunk_of v) setting) counted x
+  module _ (v : View) (store : List ℕ) (time : ℕ) (choice : Option (ℕ × ℕ)) (chain : List Datanode) (least stamp : ℕ) (octets frame : List ℕ) (s : Line L) (n : N) (token : Token) (r : Result Recovered Refusal) (w : View) (t : Site L N) (b : L) (given : octets_in token.message ≡ octets) (counted : least ≡ least_of v) where
+    settled : (wanted : SetupRequest) → Settles (record_of v) token v.terms.client_name SetupStreamingRecovery least v.len stamp (chunk_of v) wanted → Settles (record_of v) token v.terms.client_name SetupStreamingRecovery (least_of v) v.len stamp (chunk_of v) wanted
+    settled wanted x = subst (λ (m : ℕ). Settles (record_of v) token v.terms.client_name SetupStreamingRecovery m v.len stamp (chunk_of v) wanted) counted x
 
     pub built : (q : SetUp) → SetsUpOn sets v token chain least stamp s.link s.request t.request s.answer t.answer (Ok q) b
         → Resumes sets puts transfers lists stamps updates v store time choice chain q.stamp token frame b n r w t → Builds sets puts transfers lists stamps updates v store time choice chain stamp octets frame s n r w t
@@ -43,8 +43,8 @@ module _ {L N : Type 0} (sets : L → Datanode → List ℕ → ℕ → Option (
         record {
           token = token;
           given = given;
-          setting = x.setting;
-          settles = settled x.setting x.settles;
+          wanted = x.wanted;
+          settles = settled x.wanted x.settles;
           reply = x.reply;
           between = b;
           sets_up = x.sets_up;
@@ -56,8 +56,8 @@ module _ {L N : Type 0} (sets : L → Datanode → List ℕ → ℕ → Option (
     unbuilt e x er ew ef el en = record {
       token = token;
       given = given;
-      setting = x.setting;
-      settles = settled x.setting x.settles;
+      wanted = x.wanted;
+      settles = settled x.wanted x.settles;
       reply = x.reply;
       between = b;
       sets_up = x.sets_up;

@@ -4,10 +4,10 @@ use Rattle.std.proofs.lemmas.Nat.{le-div, div-add-mod'}
 use Rattle.std.proofs.lemmas.Bool.{leb-true, eqb-true, and_parts}
 use Rattle.proto.specs.declared.datanode.Datanode.{Datanode}
 use Rattle.proto.specs.declared.token.Token.{Token}
-use Rattle.pipeline.specs.declared.set_up.Setting.{Setting}
+use Rattle.pipeline.specs.declared.set_up.SetupRequest.{SetupRequest}
 use Rattle.pipeline.specs.Replies.{Reply}
 use Rattle.pipeline.specs.SetUps.{SetsUp}
-use Rattle.writer.specs.declared.admit.Lens.{Lens}
+use Rattle.writer.specs.declared.admit.Lengths.{Lengths}
 use Rattle.writer.specs.declared.opening.Opening.{Opening}
 use Rattle.writer.specs.declared.refusal.Refusal.{Refusal}
 use Rattle.writer.specs.declared.refusal.Refusal.TheVariants as refusal
@@ -33,7 +33,7 @@ is_none_else : (b : Bool) (r : Refusal) → cond b (Some r) None ≡ None → b 
 is_none_else true r h = absurd (let z : ◌≡◌ {A = ℕ} 0 1 = cc in omega arith)
 is_none_else false r h = refl
 
-pub store_fits : (o : Opening) (l : Lens) → by_buffers o l ≡ None → 3 * capacity_in o ≤ l.store
+pub store_fits : (o : Opening) (l : Lengths) → by_buffers o l ≡ None → 3 * capacity_in o ≤ l.store
 store_fits o l h = leb-true _ _ (is_none (leb (3 * capacity_in o) l.store) _ (Some refusal.Store) refusal.Store refl h).0
 
 pub record Counted (o : Opening) : Type 0 where
@@ -51,25 +51,25 @@ counts_fit o h =
     let r = and_parts (eqb (length o.storage_ids.now) n) (eqb (length o.storage_types.now) n) q.1 in
     record { some = leb-true _ _ p.0; few = leb-true _ _ q.0; names = eqb-true _ _ r.0; types = eqb-true _ _ r.1 }
 
-pub later_none : (o : Opening) (l : Lens) → by_length o ≡ None → by_count o ≡ None → by_form o ≡ None → by_buffers o l ≡ None → later_refusal o l ≡ None
+pub later_none : (o : Opening) (l : Lengths) → by_length o ≡ None → by_count o ≡ None → by_form o ≡ None → by_buffers o l ≡ None → later_refusal o l ≡ None
 later_none o l a b c d =
     ap (λ (x : Option Refusal). else x (else (by_count o) (else (by_form o) (by_buffers o l)))) a
     ∙ ap (λ (x : Option Refusal). else x (else (by_form o) (by_buffers o l))) b
     ∙ ap (λ (x : Option Refusal). else x (by_buffers o l)) c ∙ d
 
 -- the set up that was made is that of these datanodes
-pub set_up_for : {L : Type 0} (sets : L → Datanode → List ℕ → ℕ → Option (List ℕ) → L → Type 0) (o : Opening) (t : Terms) (token : Token) (nodes chain : List Datanode) (a : L) (request request' answer answer' : List ℕ) (reply : Reply) (b : L) {setting : Setting}
-    → SetsUp sets setting nodes a request request' answer answer' reply b → nodes ≡ chain
-    → Settles (block_for o t) token t.client_name (stage_for o.initial_len) o.initial_len o.initial_len o.stamp o.chunk_size setting
+pub set_up_for : {L : Type 0} (sets : L → Datanode → List ℕ → ℕ → Option (List ℕ) → L → Type 0) (o : Opening) (t : Terms) (token : Token) (nodes chain : List Datanode) (a : L) (request request' answer answer' : List ℕ) (reply : Reply) (b : L) {wanted : SetupRequest}
+    → SetsUp sets wanted nodes a request request' answer answer' reply b → nodes ≡ chain
+    → Settles (block_for o t) token t.client_name (stage_for o.initial_len) o.initial_len o.initial_len o.stamp o.chunk_size wanted
     → SetsUpFor sets o t token chain a request request' answer answer' reply b
-set_up_for sets o t token nodes chain a request request' answer answer' reply b {setting} s e settles = record {
-  setting = setting;
+set_up_for sets o t token nodes chain a request request' answer answer' reply b {wanted} s e settles = record {
+  wanted = wanted;
   settles = settles;
-  sets_up = subst (λ (ns : List Datanode). SetsUp sets setting ns a request request' answer answer' reply b) e s;
+  sets_up = subst (λ (ns : List Datanode). SetsUp sets wanted ns a request request' answer answer' reply b) e s;
 }
 
 -- an opening that is not refused before its set up
-pub opened : {L : Type 0} (sets : L → Datanode → List ℕ → ℕ → Option (List ℕ) → L → Type 0) (o : Opening) (l : Lens) (nodes : List Datanode) (t : Terms) (token : Token) (a : L) (request request' answer answer' : List ℕ) (reply : Reply) (r : Option Refusal) (w : View) (b : L)
+pub opened : {L : Type 0} (sets : L → Datanode → List ℕ → ℕ → Option (List ℕ) → L → Type 0) (o : Opening) (l : Lengths) (nodes : List Datanode) (t : Terms) (token : Token) (a : L) (request request' answer answer' : List ℕ) (reply : Reply) (r : Option Refusal) (w : View) (b : L)
     → AllSettled o l nodes t token → SetsUpFor sets o t token nodes a request request' answer answer' reply b → Started reply o l token nodes r w
     → Opens sets (open_refusal o l) o l a request answer r w b request' answer'
 opened sets o l nodes t token a request request' answer answer' reply r w b s f d =

@@ -4,7 +4,7 @@ use Rattle.std.specs.Prelude.{MatchResult, ⊤}
 use Rattle.proto.specs.declared.datanode.Datanode.{Datanode}
 use Rattle.proto.specs.declared.token.Token.{Token}
 use Rattle.request.specs.declared.stage.Stage.TheVariants.{SetupStreamingRecovery}
-use Rattle.pipeline.specs.declared.set_up.Setting.{Setting}
+use Rattle.pipeline.specs.declared.set_up.SetupRequest.{SetupRequest}
 use Rattle.pipeline.specs.Replies.{Reply}
 use Rattle.pipeline.specs.SetUps.{SetsUp}
 use Rattle.writer.specs.declared.refusal.Refusal.{Refusal}
@@ -24,14 +24,14 @@ pub refused : (reply : Reply) (least stamp : ℕ) (x : Refusal) → MatchResult 
 refused (Ok _) least stamp x m = absurd (let z : ◌≡◌ {A = ℕ} 0 1 = cc in omega arith)
 refused (Err why) least stamp x m = ap Err m
 
-pub set_up_on : {L : Type 0} (sets : L → Datanode → List ℕ → ℕ → Option (List ℕ) → L → Type 0) (v : View) (token : Token) (nodes chain : List Datanode) (least stamp : ℕ) (a : L) (request request' answer answer' : List ℕ) (reply : Reply) (r : Result SetUp Refusal) (b : L) {setting : Setting}
-    → SetsUp sets setting nodes a request request' answer answer' reply b → nodes ≡ chain
-    → Settles (record_of v) token v.terms.client_name SetupStreamingRecovery least v.len stamp (chunk_of v) setting
+pub set_up_on : {L : Type 0} (sets : L → Datanode → List ℕ → ℕ → Option (List ℕ) → L → Type 0) (v : View) (token : Token) (nodes chain : List Datanode) (least stamp : ℕ) (a : L) (request request' answer answer' : List ℕ) (reply : Reply) (r : Result SetUp Refusal) (b : L) {wanted : SetupRequest}
+    → SetsUp sets wanted nodes a request request' answer answer' reply b → nodes ≡ chain
+    → Settles (record_of v) token v.terms.client_name SetupStreamingRecovery least v.len stamp (chunk_of v) wanted
     → r ≡ built_on reply least stamp → SetsUpOn sets v token chain least stamp a request request' answer answer' r b
-set_up_on sets v token nodes chain least stamp a request request' answer answer' reply r b {setting} s e settles is = record {
-  setting = setting;
+set_up_on sets v token nodes chain least stamp a request request' answer answer' reply r b {wanted} s e settles is = record {
+  wanted = wanted;
   settles = settles;
   reply = reply;
-  sets_up = subst (λ (ns : List Datanode). SetsUp sets setting ns a request request' answer answer' reply b) e s;
+  sets_up = subst (λ (ns : List Datanode). SetsUp sets wanted ns a request request' answer answer' reply b) e s;
   is = is;
 }

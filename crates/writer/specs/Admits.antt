@@ -2,7 +2,7 @@
 use Rattle.std.specs.Prelude.{ℕ, cond, ◌&&◌, List, length, Some, None, Option, ◌==◌, nat_le}
 use Rattle.writer.specs.declared.admit.Call.{Call}
 use Rattle.writer.specs.declared.admit.Call.TheVariants as call
-use Rattle.writer.specs.declared.admit.Lens.{Lens}
+use Rattle.writer.specs.declared.admit.Lengths.{Lengths}
 use Rattle.writer.specs.declared.refusal.Refusal.{Refusal}
 use Rattle.writer.specs.declared.refusal.Refusal.TheVariants as refusal
 use Rattle.writer.specs.declared.state.kind.State.{State}
@@ -42,7 +42,7 @@ by_state Complete c = Some refusal.Complete
 by_state Closed c = Some refusal.Closed
 
 -- the store has the length that it was opened with; the frame buffer holds every frame, and the others 4,096 octets
-abbrev pub by_room : Terms → Lens → Option Refusal
+abbrev pub by_room : Terms → Lengths → Option Refusal
 by_room t l =
     cond (l.store == t.store_len)
     (cond (nat_le (frame_room t) l.frame && (nat_le 4096 l.request && nat_le 4096 l.answer)) None (Some refusal.Buffer))
@@ -52,8 +52,8 @@ abbrev pub or_else : Option Refusal → Option Refusal → Option Refusal
 or_else (Some r) s = Some r
 or_else None s = s
 
-abbrev pub refusal_for : View → Call → Lens → Option Refusal
+abbrev pub refusal_for : View → Call → Lengths → Option Refusal
 refusal_for v c l = or_else (by_state v.state c) (by_room v.terms l)
 
-abbrev pub lens_of : List ℕ → List ℕ → List ℕ → List ℕ → Lens
-lens_of store frame request answer = record { store = length store; frame = length frame; request = length request; answer = length answer }
+abbrev pub lengths_of : List ℕ → List ℕ → List ℕ → List ℕ → Lengths
+lengths_of store frame request answer = record { store = length store; frame = length frame; request = length request; answer = length answer }

@@ -2,7 +2,7 @@
 use Rattle.std.specs.Prelude.{◌≡◌, ℕ, ◌+◌, Bool, true, false, cond, not, List, Some, None, Ok, Err, Option, Result, ◌==◌, nat_lt}
 use Rattle.packet.specs.Frame.{octets_of, over}
 use Rattle.writer.specs.declared.admit.Call.TheVariants as call
-use Rattle.writer.specs.declared.admit.Lens.{Lens}
+use Rattle.writer.specs.declared.admit.Lengths.{Lengths}
 use Rattle.writer.specs.declared.cause.Cause.TheVariants.{Put}
 use Rattle.writer.specs.declared.finish.Finished.{Finished}
 use Rattle.writer.specs.declared.refusal.Refusal.{Refusal}
@@ -16,7 +16,7 @@ use Rattle.writer.specs.Writing.{Place, handed_over}
 abbrev pub closing_packets : View → ℕ
 closing_packets v = cond (v.filling == 0) 1 2
 
-abbrev pub finish_refusal : View → Lens → Option Refusal
+abbrev pub finish_refusal : View → Lengths → Option Refusal
 finish_refusal v l = or_else (refusal_for v call.Finish l) (cond (nat_lt (v.count + closing_packets v) v.terms.slots) None (Some refusal.Places))
 
 -- the last packet, held and not sent, since the one of that number was lost

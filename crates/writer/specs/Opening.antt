@@ -9,16 +9,16 @@ use Rattle.proto.specs.declared.block.ExtendedBlock.{ExtendedBlock}
 use Rattle.proto.specs.declared.datanode.Datanode.{Datanode}
 use Rattle.proto.specs.declared.token.Token.{Token}
 use Rattle.proto.specs.Form.{is_text}
-use Rattle.proto.specs.Messages.{held}
+use Rattle.proto.specs.Messages.{octets_in}
 use Rattle.proto.specs.Rules.{is_token}
 use Rattle.request.specs.declared.stage.Stage.{Stage}
 use Rattle.request.specs.declared.stage.Stage.TheVariants.{SetupAppend, SetupCreate}
 use Rattle.namenode.specs.Entries.{Row}
-use Rattle.pipeline.specs.declared.set_up.Setting.{Setting}
+use Rattle.pipeline.specs.declared.set_up.SetupRequest.{SetupRequest}
 use Rattle.pipeline.specs.Offers.{Rows, rows_in_form}
 use Rattle.pipeline.specs.Replies.{Reply}
 use Rattle.pipeline.specs.SetUps.{SetsUp}
-use Rattle.writer.specs.declared.admit.Lens.{Lens}
+use Rattle.writer.specs.declared.admit.Lengths.{Lengths}
 use Rattle.writer.specs.declared.opening.Opening.{Opening}
 use Rattle.writer.specs.declared.refusal.Refusal.{Refusal}
 use Rattle.writer.specs.declared.refusal.Refusal.TheVariants as refusal
@@ -55,7 +55,7 @@ by_form o = cond (rows_in_form (rows_in o) && (is_token o.token.now && by_texts 
 abbrev pub capacity_in : Opening → ℕ
 capacity_in o = capacity_of 4 o.chunk_size o.packet_size
 
-abbrev pub by_buffers : Opening → Lens → Option Refusal
+abbrev pub by_buffers : Opening → Lengths → Option Refusal
 by_buffers o l =
     cond (nat_le (3 * capacity_in o) l.store)
     (cond (nat_le (frame_capacity_of 4 o.chunk_size o.packet_size) l.frame && (nat_le 4096 l.request && nat_le 4096 l.answer)) None (Some refusal.Buffer))
@@ -74,7 +74,7 @@ after_sizes (Err e) s = Some (size_refusal e)
 after_sizes (Ok sizes) s = s
 
 -- in this order
-abbrev pub open_refusal : Opening → Lens → Option Refusal
+abbrev pub open_refusal : Opening → Lengths → Option Refusal
 open_refusal o l = after_sizes (settings_of 4 o.chunk_size o.packet_size) (else (by_length o) (else (by_count o) (else (by_form o) (by_buffers o l))))
 
 -- a block that has bytes is appended
@@ -82,7 +82,7 @@ abbrev pub stage_for : ℕ → Stage
 stage_for n = cond (n == 0) SetupCreate SetupAppend
 
 -- what is settled
-pub record TermsFor (o : Opening) (l : Lens) (t : Terms) : Type 0 where
+pub record TermsFor (o : Opening) (l : Lengths) (t : Terms) : Type 0 where
   pub chunk : t.size.chunk ≡ o.chunk_size
   pub packet : t.size.packet ≡ o.packet_size
   pub slots : t.slots ≡ min 101 (l.store / capacity_in o)
@@ -91,12 +91,12 @@ pub record TermsFor (o : Opening) (l : Lens) (t : Terms) : Type 0 where
   pub initial : t.initial_len ≡ o.initial_len
   pub replication : t.replication ≡ o.replication
   pub replace : t.replace ≡ o.replace
-  pub pool : held t.pool_id ≡ o.pool_id.now
+  pub pool : octets_in t.pool_id ≡ o.pool_id.now
   pub id : t.block_id ≡ o.block_id
-  pub client : held t.client_name ≡ o.client_name.now
+  pub client : octets_in t.client_name ≡ o.client_name.now
 
 -- a writer that has taken nothing yet
-pub record Fresh (o : Opening) (l : Lens) (shown : Token) (chain : List Datanode) (w : View) : Type 0 where
+pub record Fresh (o : Opening) (l : Lengths) (shown : Token) (chain : List Datanode) (w : View) : Type 0 where
   pub terms : TermsFor o l w.terms
   pub state : w.state ≡ Streaming
   pub stamp : w.stamp ≡ o.stamp
@@ -118,22 +118,22 @@ pub record Shut (w : View) : Type 0 where
 abbrev pub block_for : Opening → Terms → ExtendedBlock
 block_for o t = record { pool_id = t.pool_id; block_id = o.block_id; generation_stamp = o.stamp; num_bytes = o.initial_len }
 
-abbrev pub Started : Reply → Opening → Lens → Token → List Datanode → Option Refusal → View → Type 0
+abbrev pub Started : Reply → Opening → Lengths → Token → List Datanode → Option Refusal → View → Type 0
 Started (Ok _) o l token nodes r w = (r ≡ None) × Fresh o l token nodes w
 Started (Err why) o l token nodes r w = (r ≡ Some (refusal.SetUp why)) × Shut w
 
 -- the pipeline is set up, once, with minimum and maximum the initial length
 pub record SetsUpFor {L : Type 0} (sets : L → Datanode → List ℕ → ℕ → Option (List ℕ) → L → Type 0) (o : Opening) (terms : Terms) (token : Token) (nodes : List Datanode) (a : L) (request request' answer answer' : List ℕ) (reply : Reply) (b : L) : Type 0 where
-  pub setting : Setting
-  pub settles : Settles (block_for o terms) token terms.client_name (stage_for o.initial_len) o.initial_len o.initial_len o.stamp o.chunk_size setting
-  pub sets_up : SetsUp sets setting nodes a request request' answer answer' reply b
+  pub wanted : SetupRequest
+  pub settles : Settles (block_for o terms) token terms.client_name (stage_for o.initial_len) o.initial_len o.initial_len o.stamp o.chunk_size wanted
+  pub sets_up : SetsUp sets wanted nodes a request request' answer answer' reply b
 
 -- the datanodes and the token as they were given, the pipeline set up with them, and the writer that comes of the reply
-pub record Starts {L : Type 0} (sets : L → Datanode → List ℕ → ℕ → Option (List ℕ) → L → Type 0) (o : Opening) (l : Lens) (a : L) (request answer : List ℕ) (r : Option Refusal) (w : View) (b : L) (request' answer' : List ℕ) : Type 0 where
+pub record Starts {L : Type 0} (sets : L → Datanode → List ℕ → ℕ → Option (List ℕ) → L → Type 0) (o : Opening) (l : Lengths) (a : L) (request answer : List ℕ) (r : Option Refusal) (w : View) (b : L) (request' answer' : List ℕ) : Type 0 where
   pub nodes : List Datanode
   pub rows : Rows (rows_in o) nodes
   pub token : Token
-  pub given : held token.message ≡ o.token.now
+  pub given : octets_in token.message ≡ o.token.now
   pub terms : Terms
   pub settled : TermsFor o l terms
   pub reply : Reply
@@ -141,6 +141,6 @@ pub record Starts {L : Type 0} (sets : L → Datanode → List ℕ → ℕ → O
   pub then : Started reply o l token nodes r w
 
 -- a refusal before the set up leaves link and buffers
-abbrev pub Opens : {L : Type 0} → (L → Datanode → List ℕ → ℕ → Option (List ℕ) → L → Type 0) → Option Refusal → Opening → Lens → L → List ℕ → List ℕ → Option Refusal → View → L → List ℕ → List ℕ → Type 0
+abbrev pub Opens : {L : Type 0} → (L → Datanode → List ℕ → ℕ → Option (List ℕ) → L → Type 0) → Option Refusal → Opening → Lengths → L → List ℕ → List ℕ → Option Refusal → View → L → List ℕ → List ℕ → Type 0
 Opens sets (Some refusal) o l a request answer r w b request' answer' = (r ≡ Some refusal) × Shut w × (b ≡ a) × (request' ≡ request) × (answer' ≡ answer)
 Opens sets None o l a request answer r w b request' answer' = Starts sets o l a request answer r w b request' answer'

@@ -3,13 +3,13 @@ use Rattle.std.specs.Prelude.{◌≡◌, ℕ, ◌≤◌, Bool, true, false, cond
 use Rattle.ack.specs.declared.tally.FailedNodes.{FailedNodes}
 use Rattle.proto.specs.declared.datanode.Datanode.{Datanode}
 use Rattle.proto.specs.declared.token.Token.{Token}
-use Rattle.proto.specs.Messages.{held}
+use Rattle.proto.specs.Messages.{octets_in}
 use Rattle.proto.specs.Rules.{is_token}
 use Rattle.request.specs.declared.stage.Stage.TheVariants.{SetupStreamingRecovery}
 use Rattle.replace.specs.Decision.{should_replace}
 use Rattle.namenode.specs.Entries.{Entry, Ask, Offer, entry_for}
 use Rattle.pipeline.specs.declared.add_datanode.NoDatanode.{NoDatanode}
-use Rattle.pipeline.specs.declared.set_up.Setting.{Setting}
+use Rattle.pipeline.specs.declared.set_up.SetupRequest.{SetupRequest}
 use Rattle.pipeline.specs.Channels.{Line}
 use Rattle.pipeline.specs.Adding.{Added, Adds}
 use Rattle.pipeline.specs.Replies.{Reply}
@@ -151,12 +151,12 @@ module _ {L N : Type 0} (sets : L → Datanode → List ℕ → ℕ → Option (
   -- the pipeline is set up with the old stamp in the block and the new one beside it
   pub record Builds (v : View) (store : List ℕ) (time : ℕ) (choice : Option (ℕ × ℕ)) (chain : List Datanode) (stamp : ℕ) (octets frame : List ℕ) (s : Line L) (n : N) (r : Result Recovered Refusal) (w : View) (t : Site L N) : Type 0 where
     pub token : Token
-    pub given : held token.message ≡ octets
-    pub setting : Setting
-    pub settles : Settles (record_of v) token v.terms.client_name SetupStreamingRecovery (least_of v) v.len stamp (chunk_of v) setting
+    pub given : octets_in token.message ≡ octets
+    pub wanted : SetupRequest
+    pub settles : Settles (record_of v) token v.terms.client_name SetupStreamingRecovery (least_of v) v.len stamp (chunk_of v) wanted
     pub reply : Reply
     pub between : L
-    pub sets_up : SetsUp sets setting chain s.link s.request t.request s.answer t.answer reply between
+    pub sets_up : SetsUp sets wanted chain s.link s.request t.request s.answer t.answer reply between
     pub then : Answered reply v store time choice chain stamp token frame between n r w t
 
   -- what follows a stamp: its token must be in form

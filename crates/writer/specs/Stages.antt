@@ -2,11 +2,11 @@
 use Rattle.std.specs.Prelude.{◌≡◌, ℕ, Bool, true, false, cond, List, Some, None, Ok, Err, Option, Result}
 use Rattle.proto.specs.declared.datanode.Datanode.{Datanode}
 use Rattle.proto.specs.declared.token.Token.{Token}
-use Rattle.proto.specs.Messages.{held}
+use Rattle.proto.specs.Messages.{octets_in}
 use Rattle.proto.specs.Rules.{is_token}
 use Rattle.request.specs.declared.stage.Stage.TheVariants.{SetupStreamingRecovery}
 use Rattle.namenode.specs.Entries.{Entry, entry_for}
-use Rattle.pipeline.specs.declared.set_up.Setting.{Setting}
+use Rattle.pipeline.specs.declared.set_up.SetupRequest.{SetupRequest}
 use Rattle.pipeline.specs.Replies.{Reply}
 use Rattle.pipeline.specs.SetUps.{SetsUp}
 use Rattle.writer.specs.declared.refusal.Refusal.{Refusal}
@@ -21,7 +21,7 @@ use Rattle.writer.specs.Views.{View, chunk_of, held_in}
 
 -- a stamp whose token is in form
 abbrev pub TokenAs : Bool → ℕ → ℕ → List ℕ → Result (Stamped × Token) Refusal → Type 0
-TokenAs true least stamp octets r = (token : Token) × ((held token.message ≡ octets) × (r ≡ Ok (record { least = least; stamp = stamp }, token)))
+TokenAs true least stamp octets r = (token : Token) × ((octets_in token.message ≡ octets) × (r ≡ Ok (record { least = least; stamp = stamp }, token)))
 TokenAs false least stamp octets r = r ≡ Err refusal.Stamp
 
 abbrev pub StampAs : Option (ℕ × List ℕ) → ℕ → Result (Stamped × Token) Refusal → Type 0
@@ -40,10 +40,10 @@ built_on (Err why) least stamp = Err (refusal.Recovery why)
 
 -- from stamped to set up
 pub record SetsUpOn {L : Type 0} (sets : L → Datanode → List ℕ → ℕ → Option (List ℕ) → L → Type 0) (v : View) (token : Token) (chain : List Datanode) (least stamp : ℕ) (a : L) (request request' answer answer' : List ℕ) (r : Result SetUp Refusal) (b : L) : Type 0 where
-  pub setting : Setting
-  pub settles : Settles (record_of v) token v.terms.client_name SetupStreamingRecovery least v.len stamp (chunk_of v) setting
+  pub wanted : SetupRequest
+  pub settles : Settles (record_of v) token v.terms.client_name SetupStreamingRecovery least v.len stamp (chunk_of v) wanted
   pub reply : Reply
-  pub sets_up : SetsUp sets setting chain a request request' answer answer' reply b
+  pub sets_up : SetsUp sets wanted chain a request request' answer answer' reply b
   pub is : r ≡ built_on reply least stamp
 
 -- from set up to replayed

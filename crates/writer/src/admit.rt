@@ -3,7 +3,7 @@ ghost use Rattle.std.specs.Prelude.{◌≡◌, ◌&&◌, nat_le};
 ghost use Rattle.packet.specs.Sizes.{frame_capacity_of};
 ghost use Rattle.std.specs.Result.{result_err};
 ghost use Rattle.writer.specs.Views.{view_of};
-ghost use Rattle.writer.specs.Admits.{by_state, by_room, refusal_for, lens_of};
+ghost use Rattle.writer.specs.Admits.{by_state, by_room, refusal_for, lengths_of};
 
 use crate::refusal::Refusal;
 use crate::state::Writer;
@@ -24,18 +24,18 @@ pub enum Call {
 
 /// The lengths of the four buffers.
 #[derive(Clone, Copy)]
-pub struct Lens {
+pub struct Lengths {
     pub store: usize,
     pub frame: usize,
     pub request: usize,
     pub answer: usize,
 }
 
-impl Lens {
-    pub(crate) fn of(store: &[u8], frame: &[u8], request: &[u8], answer: &[u8]) -> Lens
-        ensures { result ≡ lens_of store.now frame.now request.now answer.now }
+impl Lengths {
+    pub(crate) fn of(store: &[u8], frame: &[u8], request: &[u8], answer: &[u8]) -> Lengths
+        ensures { result ≡ lengths_of store.now frame.now request.now answer.now }
     {
-        Lens {
+        Lengths {
             store: store.len(),
             frame: frame.len(),
             request: request.len(),
@@ -74,13 +74,13 @@ fn by_state(state: State, call: Call) -> Result<(), Refusal>
 
 impl Terms {
     // Whether the store is the one that the block was opened with, and the other buffers suffice.
-    fn by_room(&self, lens: Lens) -> Result<(), Refusal>
-        ensures { result_err result ≡ by_room self.now lens }
+    fn by_room(&self, lengths: Lengths) -> Result<(), Refusal>
+        ensures { result_err result ≡ by_room self.now lengths }
     {
-        if lens.store != self.store_len {
+        if lengths.store != self.store_len {
             return Err(Refusal::Store);
         }
-        if !lens.suffices(self.size) {
+        if !lengths.suffices(self.size) {
             return Err(Refusal::Buffer);
         }
         Ok(())
@@ -89,10 +89,10 @@ impl Terms {
 
 impl Writer {
     /// Whether a call is to be acted on.
-    pub(crate) fn admit(&self, call: Call, lens: Lens) -> Result<(), Refusal>
-        ensures { result_err result ≡ refusal_for (view_of self.now) call lens }
+    pub(crate) fn admit(&self, call: Call, lengths: Lengths) -> Result<(), Refusal>
+        ensures { result_err result ≡ refusal_for (view_of self.now) call lengths }
     {
         by_state(self.state, call)?;
-        self.terms.by_room(lens)
+        self.terms.by_room(lengths)
     }
 }

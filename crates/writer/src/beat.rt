@@ -2,12 +2,12 @@
 ghost use Rattle.std.specs.Prelude.{◌≡◌, ◌+◌, ◌≤◌, length};
 ghost use Rattle.writer.specs.declared.admit.Call.TheVariants as call;
 ghost use Rattle.writer.specs.declared.state.kind.State.TheVariants.{Streaming};
-ghost use Rattle.writer.specs.Admits.{refusal_for, lens_of};
+ghost use Rattle.writer.specs.Admits.{refusal_for, lengths_of};
 ghost use Rattle.writer.specs.Sizes.{frame_room};
 ghost use Rattle.writer.specs.Views.{view_of};
 ghost use Rattle.writer.specs.Beating.{is_due, BeatsIf, Beats, Puts as PutsBeat};
 
-use crate::admit::{Call, Lens};
+use crate::admit::{Call, Lengths};
 use crate::cause::Cause;
 use crate::refusal::Refusal;
 use crate::state::Writer;
@@ -78,9 +78,9 @@ impl Writer {
         answer: &[u8],
         time: u64,
     ) -> Result<Beat, Refusal>
-        ensures { Beats L.Link.puts (refusal_for (view_of self.old) call.Beat (lens_of store.now frame.old request.now answer.now)) (record { view = view_of self.old; store = store.now; frame = frame.old; link = link.old }) time result (record { view = view_of self.new; store = store.now; frame = frame.new; link = link.new }) }
+        ensures { Beats L.Link.puts (refusal_for (view_of self.old) call.Beat (lengths_of store.now frame.old request.now answer.now)) (record { view = view_of self.old; store = store.now; frame = frame.old; link = link.old }) time result (record { view = view_of self.new; store = store.now; frame = frame.new; link = link.new }) }
     {
-        self.admit(Call::Beat, Lens::of(store, frame, request, answer))?;
+        self.admit(Call::Beat, Lengths::of(store, frame, request, answer))?;
         self.beat_if_due(link, store, frame, time)
     }
 

@@ -3,12 +3,12 @@ ghost use Rattle.std.specs.Prelude.{◌≡◌, ◌+◌, ◌<◌, ◌≤◌, cond
 ghost use Rattle.std.specs.Result.{result_err};
 ghost use Rattle.writer.specs.declared.admit.Call.TheVariants as call;
 ghost use Rattle.writer.specs.declared.state.kind.State.TheVariants.{Streaming};
-ghost use Rattle.writer.specs.Admits.{refusal_for, lens_of};
+ghost use Rattle.writer.specs.Admits.{refusal_for, lengths_of};
 ghost use Rattle.writer.specs.Sizes.{frame_room};
 ghost use Rattle.writer.specs.Views.{view_of};
 ghost use Rattle.writer.specs.Finishing.{closing_packets, finish_refusal, unsent_last, Ends, Empties, EndsIf, Finishes};
 
-use crate::admit::{Call, Lens};
+use crate::admit::{Call, Lengths};
 use crate::cause::Cause;
 use crate::refusal::Refusal;
 use crate::state::Writer;
@@ -24,10 +24,10 @@ pub struct Finished {
 
 impl Writer {
     // Whether a finish is to be acted on: the closing packets need places too.
-    fn admit_finish(&self, lens: Lens) -> Result<(), Refusal>
-        ensures { result_err result ≡ finish_refusal (view_of self.now) lens }
+    fn admit_finish(&self, lengths: Lengths) -> Result<(), Refusal>
+        ensures { result_err result ≡ finish_refusal (view_of self.now) lengths }
     {
-        self.admit(Call::Finish, lens)?;
+        self.admit(Call::Finish, lengths)?;
         let packets = if self.filling == 0 { 1 } else { 2 };
         if self.count + packets >= self.terms.slots {
             return Err(Refusal::Places);
@@ -108,9 +108,9 @@ impl Writer {
         request: &[u8],
         answer: &[u8],
     ) -> Result<Finished, Refusal>
-        ensures { Finishes L.Link.puts (finish_refusal (view_of self.old) (lens_of store.now frame.old request.now answer.now)) (record { view = view_of self.old; store = store.now; frame = frame.old; link = link.old }) result (record { view = view_of self.new; store = store.now; frame = frame.new; link = link.new }) }
+        ensures { Finishes L.Link.puts (finish_refusal (view_of self.old) (lengths_of store.now frame.old request.now answer.now)) (record { view = view_of self.old; store = store.now; frame = frame.old; link = link.old }) result (record { view = view_of self.new; store = store.now; frame = frame.new; link = link.new }) }
     {
-        self.admit_finish(Lens::of(store, frame, request, answer))?;
+        self.admit_finish(Lengths::of(store, frame, request, answer))?;
         Ok(self.end_block(link, store, frame))
     }
 }

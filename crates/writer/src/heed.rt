@@ -2,12 +2,12 @@
 ghost use Rattle.std.specs.Prelude.{◌≡◌, ◌<◌, true};
 ghost use Rattle.writer.specs.declared.admit.Call.TheVariants as call;
 ghost use Rattle.writer.specs.declared.state.kind.State.TheVariants.{Complete, Closed};
-ghost use Rattle.writer.specs.Admits.{refusal_for, lens_of};
+ghost use Rattle.writer.specs.Admits.{refusal_for, lengths_of};
 ghost use Rattle.writer.specs.States.{listens, ended};
 ghost use Rattle.writer.specs.Views.{view_of, with_state, without_first};
 ghost use Rattle.writer.specs.Heeding.{awaits, if_last, decided, answer_of, after, Hears, Heeds};
 
-use crate::admit::{Call, Lens};
+use crate::admit::{Call, Lengths};
 use crate::cause::Cause;
 use crate::refusal::Refusal;
 use crate::state::Writer;
@@ -167,9 +167,9 @@ impl Writer {
         request: &[u8],
         answer: &mut [u8],
     ) -> Result<Heeded, Refusal>
-        ensures { Heeds L.Link.nexts (refusal_for (view_of self.old) call.Heed (lens_of store.now frame.now request.now answer.old)) (view_of self.old) link.old answer.old result (view_of self.new) link.new answer.new }
+        ensures { Heeds L.Link.nexts (refusal_for (view_of self.old) call.Heed (lengths_of store.now frame.now request.now answer.old)) (view_of self.old) link.old answer.old result (view_of self.new) link.new answer.new }
     {
-        self.admit(Call::Heed, Lens::of(store, frame, request, answer))?;
+        self.admit(Call::Heed, Lengths::of(store, frame, request, answer))?;
         self.ask_link(link, answer)
     }
 }

@@ -3,13 +3,13 @@ ghost use Rattle.std.specs.Prelude.{◌≡◌, ◌≤◌, false, length, replica
 ghost use Rattle.std.specs.Result.{result_err};
 ghost use Rattle.pipeline.specs.Channels.{SameLoans};
 ghost use Rattle.writer.specs.declared.state.kind.State.TheVariants.{Closed};
-ghost use Rattle.writer.specs.declared.admit.Lens.{Lens};
-ghost use Rattle.writer.specs.Admits.{lens_of};
+ghost use Rattle.writer.specs.declared.admit.Lengths.{Lengths};
+ghost use Rattle.writer.specs.Admits.{lengths_of};
 ghost use Rattle.writer.specs.Opening.{open_refusal, stage_for, TermsFor, Fresh, Shut, Opens, SetsUpFor};
 ghost use Rattle.writer.specs.Settling.{Fits};
 ghost use Rattle.writer.specs.Views.{view_of};
 
-use crate::admit::Lens;
+use crate::admit::Lengths;
 use crate::opening::Opening;
 use crate::refusal::Refusal;
 use crate::state::Writer;
@@ -20,7 +20,7 @@ use chain::link::Link;
 use packet::size::PacketSize;
 use pipeline::channel::Channel;
 use pipeline::reply::ReplyError;
-use pipeline::set_up::Setting;
+use pipeline::set_up::SetupRequest;
 use proto::block::{ClientOperationHeader, ExtendedBlock};
 use proto::fixed::Fixed;
 use proto::token::Token;
@@ -109,7 +109,7 @@ impl Tables {
     fn accepted(self, opening: Opening<'_>, terms: Terms, token: Token) -> Opened
         requires fits { Fits terms }
         requires few { length self.nodes.rows.items ≤ 8 }
-        ensures opened { (lens : Lens) → TermsFor opening.entry lens terms → Fresh opening.entry lens token self.nodes.rows.items (view_of result.writer) }
+        ensures opened { (lengths : Lengths) → TermsFor opening.entry lengths terms → Fresh opening.entry lengths token self.nodes.rows.items (view_of result.writer) }
         ensures well { result.outcome ≡ Ok tt }
     {
         Opened {
@@ -130,7 +130,7 @@ impl Tables {
         ensures same { SameLoans channel.old channel.new }
         ensures acts { SetsUpFor L.Link.sets opening.entry terms.now token.now self.now.nodes.rows.items channel.old.link.now channel.old.request.now channel.new.request.now channel.old.answer.now channel.new.answer.now result channel.new.link.now }
     {
-        let setting = Setting {
+        let wanted = SetupRequest {
             header: ClientOperationHeader {
                 block: ExtendedBlock {
                     pool_id: terms.pool_id,
@@ -147,7 +147,7 @@ impl Tables {
             latest_stamp: opening.stamp,
             chunk_size: opening.chunk_size,
         };
-        channel.set_up(self.nodes.as_slice(), setting)
+        channel.set_up(self.nodes.as_slice(), wanted)
     }
 }
 
@@ -174,12 +174,12 @@ impl Writer {
         request: &mut [u8],
         answer: &mut [u8],
     ) -> Result<Opened, AllocError>
-        ensures opened { IfOk result (λ x. Opens L.Link.sets (open_refusal opening.entry (lens_of store.now frame.now request.old answer.old)) opening.entry (lens_of store.now frame.now request.old answer.old) link.entry.now request.old answer.old (result_err x.outcome) (view_of x.writer) link.exit.now request.new answer.new) }
+        ensures opened { IfOk result (λ x. Opens L.Link.sets (open_refusal opening.entry (lengths_of store.now frame.now request.old answer.old)) opening.entry (lengths_of store.now frame.now request.old answer.old) link.entry.now request.old answer.old (result_err x.outcome) (view_of x.writer) link.exit.now request.new answer.new) }
         ensures unmade { is_ok result ≡ false → (link.exit.now ≡ link.entry.now) × (request.new ≡ request.old) × (answer.new ≡ answer.old) }
     {
         let mut tables = Tables::new(heap)?;
         // Two matches and no `?`: a refused opening is no `Err` here, since the tables go into the closed writer that is answered with it.
-        let (terms, token) = match tables.settle(opening, Lens::of(store, frame, request, answer)) {
+        let (terms, token) = match tables.settle(opening, Lengths::of(store, frame, request, answer)) {
             Ok(settled) => settled,
             Err(refusal) => return Ok(tables.refused(refusal)),
         };

@@ -3,7 +3,7 @@ ghost use Rattle.std.specs.Prelude.{◌≡◌};
 ghost use Rattle.std.specs.Result.{result_err};
 ghost use Rattle.writer.specs.Opening.{by_length, by_count, by_buffers, by_texts};
 
-use crate::admit::Lens;
+use crate::admit::Lengths;
 use crate::refusal::Refusal;
 use packet::size::PacketSize;
 use proto::form::is_text;
@@ -74,14 +74,14 @@ impl<'a> Opening<'a> {
     }
 
     // Whether the store has three slots at least, and the other buffers suffice.
-    pub(crate) fn by_buffers(self, size: PacketSize, lens: Lens) -> Result<(), Refusal>
+    pub(crate) fn by_buffers(self, size: PacketSize, lengths: Lengths) -> Result<(), Refusal>
         requires { (size.chunk ≡ self.chunk_size) × (size.packet ≡ self.packet_size) }
-        ensures { result_err result ≡ by_buffers self.entry lens }
+        ensures { result_err result ≡ by_buffers self.entry lengths }
     {
-        if lens.store < 3 * size.capacity() {
+        if lengths.store < 3 * size.capacity() {
             return Err(Refusal::Store);
         }
-        if !lens.suffices(size) {
+        if !lengths.suffices(size) {
             return Err(Refusal::Buffer);
         }
         Ok(())

@@ -1,15 +1,15 @@
 //! A broken pipeline rebuilt.
 ghost use Rattle.std.specs.Prelude.{◌≡◌, ℕ, ◌^◌, ◌<◌, ◌≤◌, List, length};
-ghost use Rattle.proto.specs.Messages.{held};
+ghost use Rattle.proto.specs.Messages.{octets_in};
 ghost use Rattle.pipeline.specs.Channels.{line_at, SameLoans};
 ghost use Rattle.writer.specs.declared.admit.Call.TheVariants as call;
-ghost use Rattle.writer.specs.Admits.{refusal_for, lens_of};
+ghost use Rattle.writer.specs.Admits.{refusal_for, lengths_of};
 ghost use Rattle.writer.specs.Recovering.{restored, state_on, left_of, gone_of, beyond, Resumes, Builds, AsksStamp, Rebuilds, Survived, Recovers};
 ghost use Rattle.writer.specs.Sizes.{frame_room};
 ghost use Rattle.writer.specs.States.{ended, IsBrokenState};
 ghost use Rattle.writer.specs.Views.{view_of, least_of};
 
-use crate::admit::{Call, Lens};
+use crate::admit::{Call, Lengths};
 use crate::cause::Cause;
 use crate::recovery::{Counted, Replayed, SetUp, Stamped};
 use crate::refusal::Refusal;
@@ -127,7 +127,7 @@ impl Writer {
         requires terms_in_bounds { frame_room self.old.terms ≤ length frame.old }
         requires some_left { 1 ≤ length self.old.chosen.rows.items }
         ensures same { SameLoans channel.old channel.new }
-        ensures acts { (octets : List ℕ) → held token.message ≡ octets → Builds L.Link.sets L.Link.puts L.Link.transfers N.NamenodeProtocol.lists N.NamenodeProtocol.stamps N.NamenodeProtocol.updates (view_of self.old) store.now time choice self.old.chosen.rows.items stamped.stamp octets frame.old (line_at channel.old) namenode.old result (view_of self.new) (record { link = channel.new.link.now; namenode = namenode.new; frame = frame.new; request = channel.new.request.now; answer = channel.new.answer.now }) }
+        ensures acts { (octets : List ℕ) → octets_in token.message ≡ octets → Builds L.Link.sets L.Link.puts L.Link.transfers N.NamenodeProtocol.lists N.NamenodeProtocol.stamps N.NamenodeProtocol.updates (view_of self.old) store.now time choice self.old.chosen.rows.items stamped.stamp octets frame.old (line_at channel.old) namenode.old result (view_of self.new) (record { link = channel.new.link.now; namenode = namenode.new; frame = frame.new; request = channel.new.request.now; answer = channel.new.answer.now }) }
     {
         // A match: after a closure that borrowed the writer, to close it, a proof knows nothing of the writer.
         match stamped.set_up(channel, self, &token) {
@@ -231,9 +231,9 @@ impl Writer {
         answer: &mut [u8],
         time: u64,
     ) -> Result<Recovered, Refusal>
-        ensures { Recovers L.Link.sets L.Link.puts L.Link.transfers N.NamenodeProtocol.lists N.NamenodeProtocol.stamps N.NamenodeProtocol.updates (refusal_for (view_of self.old) call.Recover (lens_of store.now frame.old request.old answer.old)) (view_of self.old) store.now time (record { link = link.entry.now; namenode = namenode.old; frame = frame.old; request = request.old; answer = answer.old }) result (view_of self.new) (record { link = link.exit.now; namenode = namenode.new; frame = frame.new; request = request.new; answer = answer.new }) }
+        ensures { Recovers L.Link.sets L.Link.puts L.Link.transfers N.NamenodeProtocol.lists N.NamenodeProtocol.stamps N.NamenodeProtocol.updates (refusal_for (view_of self.old) call.Recover (lengths_of store.now frame.old request.old answer.old)) (view_of self.old) store.now time (record { link = link.entry.now; namenode = namenode.old; frame = frame.old; request = request.old; answer = answer.old }) result (view_of self.new) (record { link = link.exit.now; namenode = namenode.new; frame = frame.new; request = request.new; answer = answer.new }) }
     {
-        self.admit(Call::Recover, Lens::of(store, frame, request, answer))?;
+        self.admit(Call::Recover, Lengths::of(store, frame, request, answer))?;
         let mut channel = Channel {
             link,
             request,

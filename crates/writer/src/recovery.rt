@@ -19,7 +19,7 @@ use packet::frame::WritePacket;
 use packet::size::PacketSize;
 use pipeline::channel::Channel;
 use pipeline::nodes::NodeTable;
-use pipeline::set_up::Setting;
+use pipeline::set_up::SetupRequest;
 use proto::block::{ClientOperationHeader, ExtendedBlock};
 use proto::datanode::Datanode;
 use proto::token::Token;
@@ -106,7 +106,7 @@ impl Stamped {
         ensures acts { SetsUpOn L.Link.sets (view_of writer.now) token.now writer.now.chosen.rows.items self.least self.stamp channel.old.link.now channel.old.request.now channel.new.request.now channel.old.answer.now channel.new.answer.now result channel.new.link.now }
     {
         let Stamped { least, stamp } = self;
-        let setting = Setting {
+        let wanted = SetupRequest {
             header: ClientOperationHeader {
                 block: writer.block(),
                 token,
@@ -119,7 +119,7 @@ impl Stamped {
             chunk_size: writer.terms.size.chunk_size(),
         };
         channel
-            .set_up(writer.chosen.as_slice(), setting)
+            .set_up(writer.chosen.as_slice(), wanted)
             .map_err(Refusal::Recovery)?;
         Ok(SetUp { least, stamp })
     }

@@ -1,13 +1,13 @@
 //! What is read of an opening, looked at in the order of the refusals, and settled.
 ghost use Rattle.std.specs.Prelude.{◌≡◌, ◌+◌, ◌*◌, ◌/◌, ◌^◌, ◌<◌, ◌≤◌, min, length, None, vec_capacity, MatchResult};
-ghost use Rattle.proto.specs.Messages.{held};
+ghost use Rattle.proto.specs.Messages.{octets_in};
 ghost use Rattle.packet.specs.Sizes.{capacity_of};
-ghost use Rattle.writer.specs.Admits.{lens_of};
+ghost use Rattle.writer.specs.Admits.{lengths_of};
 ghost use Rattle.writer.specs.Opening.{size_refusal, by_length, by_buffers, capacity_in, open_refusal, stage_for, TermsFor, Fresh, Shut, Started, Starts, Opens};
 ghost use Rattle.writer.specs.Settling.{Formed, Settled, SettledSized, Fits};
 ghost use Rattle.writer.specs.Views.{view_of};
 
-use crate::admit::Lens;
+use crate::admit::Lengths;
 use crate::opening::Opening;
 use crate::refusal::Refusal;
 use crate::state::Writer;
@@ -19,7 +19,7 @@ use held::table::SLOTS;
 use packet::size::PacketSize;
 use packet::size::settings::SizeError;
 use pipeline::nodes::NodeTable;
-use pipeline::set_up::Setting;
+use pipeline::set_up::SetupRequest;
 use proto::block::{ClientOperationHeader, ExtendedBlock};
 use proto::fixed::Fixed;
 use proto::token::Token;
@@ -57,17 +57,17 @@ fn slots_in(store_len: usize, capacity: usize) -> usize
 
 // What stays of an opening that is not refused.
 // That the opening passed each look is asked for: a type of what has passed would be made for this one function.
-fn terms_for(opening: Opening<'_>, size: PacketSize, forms: Forms, lens: Lens) -> Terms
+fn terms_for(opening: Opening<'_>, size: PacketSize, forms: Forms, lengths: Lengths) -> Terms
     requires chunk_value { (size.chunk ≡ opening.chunk_size) × (size.packet ≡ opening.packet_size) }
-    requires opening_value { (by_length opening ≡ None) × (by_buffers opening lens ≡ None) }
-    requires pool_id_value { (held forms.pool_id ≡ opening.pool_id.now) × (held forms.client_name ≡ opening.client_name.now) }
-    ensures terms { TermsFor opening.entry lens result }
+    requires opening_value { (by_length opening ≡ None) × (by_buffers opening lengths ≡ None) }
+    requires pool_id_value { (octets_in forms.pool_id ≡ opening.pool_id.now) × (octets_in forms.client_name ≡ opening.client_name.now) }
+    ensures terms { TermsFor opening.entry lengths result }
     ensures fits { Fits result }
 {
     Terms {
         size,
-        slots: slots_in(lens.store, size.capacity()),
-        store_len: lens.store,
+        slots: slots_in(lengths.store, size.capacity()),
+        store_len: lengths.store,
         block_size: opening.block_size,
         initial_len: opening.initial_len,
         replication: opening.replication,
@@ -102,12 +102,12 @@ impl Tables {
     pub(crate) fn settle(
         &mut self,
         opening: Opening<'_>,
-        lens: Lens,
+        lengths: Lengths,
     ) -> Result<(Terms, Token), Refusal>
-        ensures { Settled opening.entry lens self.new.nodes.rows.items result }
+        ensures { Settled opening.entry lengths self.new.nodes.rows.items result }
     {
         let size = PacketSize::new(opening.chunk_size, opening.packet_size)?;
-        self.settle_sized(opening, size, lens)
+        self.settle_sized(opening, size, lengths)
     }
 
     // The sizes stand beside the opening that they were accepted of: a struct of both would be made for this one step.
@@ -115,15 +115,15 @@ impl Tables {
         &mut self,
         opening: Opening<'_>,
         size: PacketSize,
-        lens: Lens,
+        lengths: Lengths,
     ) -> Result<(Terms, Token), Refusal>
         requires { (size.chunk ≡ opening.chunk_size) × (size.packet ≡ opening.packet_size) }
-        ensures { SettledSized opening.entry lens self.new.nodes.rows.items result }
+        ensures { SettledSized opening.entry lengths self.new.nodes.rows.items result }
     {
         opening.by_length()?;
         opening.by_count()?;
         let forms = self.read_forms(opening).ok_or(Refusal::Form)?;
-        opening.by_buffers(size, lens)?;
-        Ok((terms_for(opening, size, forms, lens), forms.token))
+        opening.by_buffers(size, lengths)?;
+        Ok((terms_for(opening, size, forms, lengths), forms.token))
     }
 }

@@ -2,12 +2,12 @@
 ghost use Rattle.std.specs.Prelude.{◌≡◌, ◌≤◌, length};
 ghost use Rattle.writer.specs.declared.admit.Call.TheVariants as call;
 ghost use Rattle.writer.specs.declared.state.kind.State.TheVariants.{Streaming};
-ghost use Rattle.writer.specs.Admits.{refusal_for, lens_of};
+ghost use Rattle.writer.specs.Admits.{refusal_for, lengths_of};
 ghost use Rattle.writer.specs.Sizes.{frame_room};
 ghost use Rattle.writer.specs.Views.{view_of};
 ghost use Rattle.writer.specs.Writing.{Turns, Writes, Wrote};
 
-use crate::admit::{Call, Lens};
+use crate::admit::{Call, Lengths};
 use crate::refusal::Refusal;
 use crate::state::Writer;
 use chain::link::{Link, LinkLost};
@@ -108,9 +108,9 @@ impl Writer {
         answer: &[u8],
         bytes: &[u8],
     ) -> Result<Written, Refusal>
-        ensures { Wrote L.Link.puts (refusal_for (view_of self.old) call.Write (lens_of store.old frame.old request.now answer.now)) (record { view = view_of self.old; store = store.old; frame = frame.old; link = link.old }) bytes.now result (record { view = view_of self.new; store = store.new; frame = frame.new; link = link.new }) }
+        ensures { Wrote L.Link.puts (refusal_for (view_of self.old) call.Write (lengths_of store.old frame.old request.now answer.now)) (record { view = view_of self.old; store = store.old; frame = frame.old; link = link.old }) bytes.now result (record { view = view_of self.new; store = store.new; frame = frame.new; link = link.new }) }
     {
-        self.admit(Call::Write, Lens::of(store, frame, request, answer))?;
+        self.admit(Call::Write, Lengths::of(store, frame, request, answer))?;
         Ok(self.pour(link, store, frame, bytes))
     }
 }

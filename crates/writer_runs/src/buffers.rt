@@ -1,6 +1,6 @@
 //! The four buffers that a writer's calls are lent.
 use std::alloc::{AllocError, Global};
-use writer::admit::Lens;
+use writer::admit::Lengths;
 
 /// The four buffers.
 #[derive(Drop)]
@@ -12,7 +12,7 @@ pub struct Buffers {
 }
 
 /// The least of each, for packets of one chunk of four bytes.
-pub const LEAST: Lens = Lens {
+pub const LEAST: Lengths = Lengths {
     store: 12,
     frame: 41,
     request: 4096,
@@ -20,7 +20,7 @@ pub const LEAST: Lens = Lens {
 };
 
 /// The same with a store of seven packets.
-pub const SEVEN_SLOTS: Lens = Lens { store: 28, ..LEAST };
+pub const SEVEN_SLOTS: Lengths = Lengths { store: 28, ..LEAST };
 
 // What stands in a buffer that nothing was written to: what a call writes can be told from what it leaves.
 const UNWRITTEN: u8 = 0x77;
@@ -34,23 +34,23 @@ fn resized(octets: &Vec<u8>, len: usize) -> Result<Vec<u8>, AllocError> {
 
 impl Buffers {
     /// Buffers of these lengths, with nothing written to them.
-    pub fn new(heap: Global, lens: Lens) -> Result<Buffers, AllocError> {
+    pub fn new(heap: Global, lengths: Lengths) -> Result<Buffers, AllocError> {
         let none = Buffers {
             store: Vec::new(heap),
             frame: Vec::new(heap),
             request: Vec::new(heap),
             answer: Vec::new(heap),
         };
-        none.with_lens(lens)
+        none.with_lengths(lengths)
     }
 
     /// A copy of them, cut or continued to these lengths.
-    pub fn with_lens(&self, lens: Lens) -> Result<Buffers, AllocError> {
+    pub fn with_lengths(&self, lengths: Lengths) -> Result<Buffers, AllocError> {
         Ok(Buffers {
-            store: resized(&self.store, lens.store)?,
-            frame: resized(&self.frame, lens.frame)?,
-            request: resized(&self.request, lens.request)?,
-            answer: resized(&self.answer, lens.answer)?,
+            store: resized(&self.store, lengths.store)?,
+            frame: resized(&self.frame, lengths.frame)?,
+            request: resized(&self.request, lengths.request)?,
+            answer: resized(&self.answer, lengths.answer)?,
         })
     }
 

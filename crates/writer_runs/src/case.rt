@@ -15,7 +15,7 @@ use spool::state::Spool;
 use std::alloc::{AllocError, Global};
 use std::process::Abort;
 use std::test::Fail;
-use writer::admit::Lens;
+use writer::admit::Lengths;
 use writer::refusal::Refusal;
 
 /// A run: what the block is opened with, the steps one after another, and what they come to.
@@ -27,7 +27,7 @@ pub struct Case<'a> {
     pub fields: &'a [Field],
     /// The bytes that the datanodes keep of the block before.
     pub kept: &'static [u8],
-    pub lens: Lens,
+    pub lengths: Lengths,
     pub namenode: Namenodes,
     /// What the opening's set up comes to, where it is not what the chain answers.
     pub set_up: Option<Instead>,
@@ -52,7 +52,7 @@ pub const CASE: Case<'static> = Case {
     nodes: 2,
     fields: &[],
     kept: b"",
-    lens: Lens { store: 20, ..LEAST },
+    lengths: Lengths { store: 20, ..LEAST },
     namenode: Namenodes::House(1001, true),
     set_up: None,
     opened: 0,
@@ -88,7 +88,7 @@ fn perform<C: Nodes + Drop, N: HasEntry>(
 ) -> Result<(), Fail> {
     let link = TestLink::over(heap, chain, case.set_up);
     let block = with_fields(opening(case.nodes), case.fields);
-    let (mut run, opened) = Run::open(heap, block, link, Buffers::new(heap, case.lens)?)?;
+    let (mut run, opened) = Run::open(heap, block, link, Buffers::new(heap, case.lengths)?)?;
     case.is_opened(rt, i, opened.err());
     run.play(rt, namenode, i, case.steps)?;
     case.end.comes(rt, run, namenode)

@@ -7,7 +7,7 @@ use proto::block::ExtendedBlock;
 use runs::command::{Command, Outcome};
 use std::alloc::{AllocError, Global};
 use std::mem;
-use writer::admit::Lens;
+use writer::admit::Lengths;
 use writer::heed::Heeded;
 use writer::opening::Opening;
 use writer::refusal::Refusal;
@@ -118,13 +118,13 @@ impl<C: Link> Run<C> {
 
     /// Copies of the run's buffers are lent in their place, with a store, a frame and an answer of these lengths.
     pub fn lend(&mut self, store: usize, frame: usize, answer: usize) -> Result<(), AllocError> {
-        let lens = Lens {
+        let lengths = Lengths {
             store,
             frame,
             answer,
             request: self.buffers.request.len(),
         };
-        let lent = self.buffers.with_lens(lens)?;
+        let lent = self.buffers.with_lengths(lengths)?;
         self.own = mem::replace(&mut self.buffers, lent);
         self.mark()
     }

@@ -7,7 +7,7 @@ use crate::link::{DATA, Instead, LAST, Put};
 use crate::sample::LINK_LOST;
 use crate::step::{Look, Step};
 use std::test::Fail;
-use writer::admit::Lens;
+use writer::admit::Lengths;
 use writer::heed::Heeded;
 
 // Ten bytes end within a chunk of four: the first packet has the two that are left of it. Eight bytes end with one.
@@ -94,7 +94,7 @@ fn two_chunks(rt: HostRuntime) -> Result<(), Fail> {
         nodes: 1,
         fields: &[Field::InitialLen(5), Field::PacketSize(49)],
         kept: b"01234",
-        lens: Lens {
+        lengths: Lengths {
             store: 40,
             frame: 49,
             ..LEAST

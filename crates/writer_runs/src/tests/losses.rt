@@ -16,7 +16,7 @@ use writer::refusal::Refusal;
 macro_rules! lost_in_a_write {
     ($before:literal, $held:literal, $taken:literal, $rest:literal, $left:literal) => {
         Case {
-            lens: SEVEN_SLOTS,
+            lengths: SEVEN_SLOTS,
             steps: &[
                 Step::LosePut($before),
                 Step::WriteLost(b"abcdefghijklmn", $taken),
@@ -49,7 +49,7 @@ macro_rules! lost_in_a_finish {
     ($before:literal) => {
         Case {
             nodes: 3,
-            lens: SEVEN_SLOTS,
+            lengths: SEVEN_SLOTS,
             steps: &[
                 Step::Write(b"ab", 2),
                 Step::LosePut($before),
@@ -81,7 +81,7 @@ macro_rules! lost_in_a_replay {
     ($before:literal) => {
         Case {
             nodes: 3,
-            lens: SEVEN_SLOTS,
+            lengths: SEVEN_SLOTS,
             steps: &[
                 Step::Write(b"abcdefghijklmn", 14),
                 Step::OnNext(Instead::Lost),
@@ -125,7 +125,7 @@ macro_rules! lost_at_a_heed {
     ($instead:expr, $heeded:expr, $look:expr, $ips:literal) => {
         Case {
             nodes: 3,
-            lens: SEVEN_SLOTS,
+            lengths: SEVEN_SLOTS,
             steps: &[
                 Step::Write(b"abcdef", 6),
                 Step::Mark,

@@ -6,7 +6,7 @@ use crate::sample::{A, DS_1};
 use crate::step::{Look, Step};
 use runs::command::Command;
 use std::test::Fail;
-use writer::admit::Lens;
+use writer::admit::Lengths;
 use writer::refusal::Refusal;
 
 // Where an opening is refused, the link was asked for nothing, no buffer was written, and the writer is closed.
@@ -129,7 +129,7 @@ fn longest_forms(rt: HostRuntime) -> Result<(), Fail> {
 macro_rules! short {
     ($number:literal, $store:literal, $frame:literal, $request:literal, $answer:literal) => {
         Case {
-            lens: Lens {
+            lengths: Lengths {
                 store: $store,
                 frame: $frame,
                 request: $request,
@@ -150,7 +150,7 @@ fn buffers(rt: HostRuntime) -> Result<(), Fail> {
         short!(6, 11, 40, 4095, 4095),
         Case {
             nodes: 1,
-            lens: LEAST,
+            lengths: LEAST,
             ..CASE
         },
     ];
@@ -174,7 +174,7 @@ fn order(rt: HostRuntime) -> Result<(), Fail> {
             ..refused!(4, Field::Token(b""))
         },
         Case {
-            lens: Lens { store: 0, ..LEAST },
+            lengths: Lengths { store: 0, ..LEAST },
             ..refused!(5, Field::Token(b""))
         },
     ];

@@ -26,7 +26,7 @@ const SETUP: Setup = Setup {
 // Three datanodes, and a store of seven packets.
 const ON_THREE: Case = Case {
     nodes: 3,
-    lens: SEVEN_SLOTS,
+    lengths: SEVEN_SLOTS,
     ..CASE
 };
 

@@ -6,14 +6,14 @@ use crate::field::Field;
 use crate::link::{DATA, LAST, Put};
 use crate::step::{Look, Step};
 use std::test::Fail;
-use writer::admit::Lens;
+use writer::admit::Lengths;
 use writer::heed::Heeded;
 
 // Of three slots two are for held packets, and the third one fills: a write stops there, and goes on after a confirmation.
 #[test]
 fn full_slots(rt: HostRuntime) -> Result<(), Fail> {
     const FULL_SLOTS: Case = Case {
-        lens: LEAST,
+        lengths: LEAST,
         steps: &[
             Step::Write(b"abcdefghijklmnopqrst", 12),
             Step::Look(Look::PutCount(2)),
@@ -45,7 +45,7 @@ fn most_slots(rt: HostRuntime) -> Result<(), Fail> {
     const MOST_SLOTS: Case = Case {
         nodes: 1,
         fields: &[Field::BlockSize(1024)],
-        lens: Lens {
+        lengths: Lengths {
             store: 500,
             ..LEAST
         },

@@ -109,7 +109,7 @@ fn incomplete(rt: HostRuntime) -> Result<(), Fail> {
 #[test]
 fn places(rt: HostRuntime) -> Result<(), Fail> {
     const PLACES: Case = Case {
-        lens: LEAST,
+        lengths: LEAST,
         steps: &[
             Step::Write(b"abcdefghij", 10),
             Step::Lend(12, 41, 4095),

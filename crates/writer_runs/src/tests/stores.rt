@@ -14,7 +14,7 @@ use writer::refusal::Refusal;
 macro_rules! lent {
     ($len:literal) => {
         Case {
-            lens: SEVEN_SLOTS,
+            lengths: SEVEN_SLOTS,
             steps: &[
                 Step::Write(b"abcdefghij", 10),
                 Step::Look(Look::PutCount(2)),
@@ -45,7 +45,7 @@ fn shorter_and_longer(rt: HostRuntime) -> Result<(), Fail> {
 #[test]
 fn recovery(rt: HostRuntime) -> Result<(), Fail> {
     const RECOVERY: Case = Case {
-        lens: SEVEN_SLOTS,
+        lengths: SEVEN_SLOTS,
         steps: &[
             Step::Write(b"abcdefghij", 10),
             Step::OnNext(Instead::Lost),

@@ -15,7 +15,7 @@ returns g c =
       sent = whole (octets_of m) c.args.request.now c.write_request-end.new.out end s;
       reply =
           asked_with
-          (λ z came. g.L.Link.sets c.args.link.now m.first.now z c.args.setting.min_bytes came c.set_up-came.new.self)
+          (λ z came. g.L.Link.sets c.args.link.now m.first.now z c.args.wanted.min_bytes came c.set_up-came.new.self)
           (octets_of m) _ c.args.answer.now c.set_up-came.new.answer c.set_up-came.result c.judge_reply.result
           (stands (octets_of m) c.args.request.now c.write_request-end.new.out end s (end - 0) (omega arith))
           c.set_up-came.ensures c.judge_reply.ensures;

@@ -1,4 +1,4 @@
-use Rattle.writer.specs.Admits.{refusal_for, lens_of}
+use Rattle.writer.specs.Admits.{refusal_for, lengths_of}
 use Rattle.writer.specs.Recovering.{Site}
 use Rattle.writer.specs.Views.{view_of}
 use Rattle.writer.specs.declared.admit.Call.TheVariants as call
@@ -37,7 +37,7 @@ returns-in-Recover g c h =
     let a = c.args in
     let n = g.N.NamenodeProtocol in
     let l = g.C.Link in
-    let o = refusal_for (view_of a.writer.now) call.Recover (lens_of a.store.now a.frame.now a.request.now a.answer.now) in
+    let o = refusal_for (view_of a.writer.now) call.Recover (lengths_of a.store.now a.frame.now a.request.now a.answer.now) in
     let s : Site g.row.C.Denot g.row.N.Denot = record { link = a.link.now; namenode = a.namenode.now; frame = a.frame.now; request = a.request.now; answer = a.answer.now } in
     let t : Site g.row.C.Denot g.row.N.Denot = record { link = c.recover.new.link; namenode = c.recover.new.namenode; frame = c.recover.new.frame; request = c.recover.new.request; answer = c.recover.new.answer } in
     let set = set_in l.sets l.puts l.transfers n.lists n.stamps n.updates (view_of a.writer.now) a.store.now c.in-Recover.time c.recover.result (view_of c.recover.new.self) t o s c.recover.ensures in

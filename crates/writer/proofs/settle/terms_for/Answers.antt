@@ -10,4 +10,4 @@ slots_in-requires c =
     let o = c.args.opening in
     let z = c.args.size in
     let e : c.capacity.result ≡ capacity_in o = c.capacity.ensures ∙ ap (λ (k : ℕ). capacity_of 4 k z.packet) c.requires.chunk_value.0 ∙ ap (λ (k : ℕ). capacity_of 4 o.chunk_size k) c.requires.chunk_value.1 in
-    (omega (arith, size_some z, c.capacity.ensures), omega (arith, store_fits o c.args.lens c.requires.opening_value.1, e))
+    (omega (arith, size_some z, c.capacity.ensures), omega (arith, store_fits o c.args.lengths c.requires.opening_value.1, e))

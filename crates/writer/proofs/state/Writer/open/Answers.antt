@@ -1,7 +1,7 @@
 use Rattle.std.proofs.Common.{◌≡◌, Ok, Err, Some, None, vec_items, sym, refl, ap, ◌∙◌, subst, arith, rules}
 use Rattle.std.specs.Result.{result_err}
 use Rattle.writer.specs.declared.refusal.Refusal.TheVariants as refusal
-use Rattle.writer.specs.Admits.{lens_of}
+use Rattle.writer.specs.Admits.{lengths_of}
 use Rattle.writer.specs.Settling.{Settled}
 use Rattle.writer.specs.Opening.{Started}
 use Rattle.writer.specs.Views.{view_of}
@@ -11,7 +11,7 @@ use Rattle.writer.proofs.state.Writer.open.Goals as goal
 pub returns-in-Ok-set_up-clause-opened : goal.returns-in-Ok-set_up-clause-opened
 returns-in-Ok-set_up-clause-opened g c =
     let o = c.args.opening in
-    let l = lens_of c.args.store.now c.args.frame.now c.args.request.now c.args.answer.now in
+    let l = lengths_of c.args.store.now c.args.frame.now c.args.request.now c.args.answer.now in
     let nodes = vec_items c.settle.new.self.nodes.rows in
     let is : c.settle.result ≡ Ok c.in-Ok.settled = grind arith in
     let s = subst (λ z. Settled o l nodes z) is (subst (λ z. Settled o z nodes c.settle.result) c.of.ensures c.settle.ensures) in
@@ -24,7 +24,7 @@ returns-in-Ok-set_up-clause-opened g c =
 pub returns-in-Err-set_up-clause-opened : goal.returns-in-Err-set_up-clause-opened
 returns-in-Err-set_up-clause-opened g c =
     let o = c.args.opening in
-    let l = lens_of c.args.store.now c.args.frame.now c.args.request.now c.args.answer.now in
+    let l = lengths_of c.args.store.now c.args.frame.now c.args.request.now c.args.answer.now in
     let nodes = vec_items c.settle.new.self.nodes.rows in
     let w = c.refused-in-Err-set_up.result in
     let is : c.settle.result ≡ Ok c.in-Ok.settled = grind arith in

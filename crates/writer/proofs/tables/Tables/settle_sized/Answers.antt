@@ -8,7 +8,7 @@ use Rattle.writer.proofs.tables.Tables.settle_sized.Goals as goal
 pub returns : goal.returns
 returns c =
     let o = c.args.opening in
-    let l = c.args.lens in
+    let l = c.args.lengths in
     let a : by_length o ≡ None = search rules in
     let b : by_count o ≡ None = search rules in
     let d : by_buffers o l ≡ None = search rules in
