@@ -81,7 +81,7 @@ impl From<ReplyError> for NoDatanode {
 
 impl<'a, L: Link> Channel<'a, L> {
     ghost use Rattle.replace.specs.Choice.{choice_of};
-    ghost use Rattle.pipeline.specs.Channels.{line_at, SameLoans};
+    ghost use Rattle.pipeline.specs.Channels.{channel_view, SameLoans};
     ghost use Rattle.pipeline.specs.Adding.{Copies, Adds, Within};
 
     // Chooses a new datanode of the list and has its source copy the block to it.
@@ -91,7 +91,9 @@ impl<'a, L: Link> Channel<'a, L> {
         list: &'b [Datanode],
         old: &[Datanode],
     ) -> Result<(usize, usize), NoDatanode>
-        ensures acts { Copies L.Link.transfers header.entry list.now (choice_of list.now old.now) (line_at self.old) result (line_at self.new) }
+        ensures acts {
+            Copies L.Link header.entry list.now (choice_of list.now old.now) (channel_view self.old) result
+                (channel_view self.new) }
         ensures same { SameLoans self.old self.new }
     {
         let (new, source) = choose(list, old)?;
@@ -114,7 +116,10 @@ impl<'a, L: Link> Channel<'a, L> {
         gone: &[Datanode],
         list: &mut NodeTable,
     ) -> Result<(usize, usize), NoDatanode>
-        ensures acts { Adds L.Link.transfers N.NamenodeProtocol.lists block client_name.now old.now left.now gone.now list.old.rows.items list.new.rows.items (line_at self.old) namenode.old result (line_at self.new) namenode.new }
+        ensures acts {
+            Adds L.Link N.NamenodeProtocol block client_name.now old.now left.now gone.now
+                list.old.rows.items list.new.rows.items
+                (channel_view self.old) namenode.old result (channel_view self.new) namenode.new }
         ensures same { SameLoans self.old self.new }
         ensures within { Within list.new.rows.items result }
         ensures capacity { vec_capacity list.new.rows ≡ vec_capacity list.old.rows }

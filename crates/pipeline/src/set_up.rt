@@ -1,5 +1,6 @@
 //! A pipeline set up: the request written and sent to the first datanode, and the response judged.
 ghost use Rattle.std.specs.Prelude.{◌≤◌, length};
+ghost use Rattle.pipeline.specs.Channels.{channel_over};
 ghost use Rattle.pipeline.specs.SetUps.{Requests, SetsUp};
 
 use crate::channel::Channel;
@@ -49,7 +50,9 @@ fn send_set_up<'a, L: Link>(
     answer: &mut [u8],
 ) -> Result<(), ReplyError>
     requires { (1 ≤ length nodes.now) × ((length nodes.now ≤ 8) × (4096 ≤ length request.old)) }
-    ensures { SetsUp L.Link.sets wanted.entry nodes.now link.old request.old request.new answer.old answer.new result link.new }
+    ensures {
+        SetsUp L.Link wanted.entry nodes.now (channel_over link.old request.old answer.old) result
+            (channel_over link.new request.new answer.new) }
 {
     let message = request_for(wanted, nodes);
     let end = write_request(&message, request);
@@ -58,7 +61,7 @@ fn send_set_up<'a, L: Link>(
 }
 
 impl<'a, L: Link> Channel<'a, L> {
-    ghost use Rattle.pipeline.specs.Channels.{SameLoans};
+    ghost use Rattle.pipeline.specs.Channels.{channel_view, SameLoans};
 
     /// Sets up a pipeline of these datanodes: writes the request and sends it once, to the first datanode. The response stands at the front
     /// of the answer's buffer, which stays as it was where none came.
@@ -68,7 +71,7 @@ impl<'a, L: Link> Channel<'a, L> {
         wanted: SetupRequest<'b>,
     ) -> Result<(), ReplyError>
         requires { (1 ≤ length nodes.now) × (length nodes.now ≤ 8) }
-        ensures acts { SetsUp L.Link.sets wanted.entry nodes.now self.old.link.now self.old.request.now self.new.request.now self.old.answer.now self.new.answer.now result self.new.link.now }
+        ensures acts { SetsUp L.Link wanted.entry nodes.now (channel_view self.old) result (channel_view self.new) }
         ensures same { SameLoans self.old self.new }
     {
         send_set_up(self.link, nodes, wanted, self.request, self.answer)

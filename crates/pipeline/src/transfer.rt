@@ -1,5 +1,6 @@
 //! A block copied to a new datanode: the request written and sent to the datanode that has it, and the response judged.
 ghost use Rattle.std.specs.Prelude.{◌≤◌, length};
+ghost use Rattle.pipeline.specs.Channels.{channel_over};
 ghost use Rattle.pipeline.specs.Transfers.{Transfers};
 
 use crate::channel::Channel;
@@ -21,7 +22,9 @@ fn send_transfer<'a, L: Link>(
     answer: &mut [u8],
 ) -> Result<(), ReplyError>
     requires { 4096 ≤ length request.old }
-    ensures { Transfers L.Link.transfers header.entry source.now target.now link.old request.old request.new answer.old answer.new result link.new }
+    ensures {
+        Transfers L.Link header.entry source.now target.now (channel_over link.old request.old answer.old) result
+            (channel_over link.new request.new answer.new) }
 {
     let message = TransferBlock { header, target };
     let end = write_request(&message, request);
@@ -30,7 +33,7 @@ fn send_transfer<'a, L: Link>(
 }
 
 impl<'a, L: Link> Channel<'a, L> {
-    ghost use Rattle.pipeline.specs.Channels.{SameLoans};
+    ghost use Rattle.pipeline.specs.Channels.{channel_view, SameLoans};
 
     /// Has `source` copy the block to `target`: writes the request and sends it once, to `source`. The response stands at the front of the
     /// answer's buffer, which stays as it was where none came.
@@ -40,7 +43,9 @@ impl<'a, L: Link> Channel<'a, L> {
         source: &Datanode,
         target: &'b Datanode,
     ) -> Result<(), ReplyError>
-        ensures acts { Transfers L.Link.transfers header.entry source.now target.now self.old.link.now self.old.request.now self.new.request.now self.old.answer.now self.new.answer.now result self.new.link.now }
+        ensures acts {
+            Transfers L.Link header.entry source.now target.now (channel_view self.old) result
+                (channel_view self.new) }
         ensures same { SameLoans self.old self.new }
     {
         send_transfer(self.link, header, source, target, self.request, self.answer)

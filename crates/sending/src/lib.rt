@@ -3,4 +3,3 @@
 
 pub mod ask;
 pub mod put;
-pub mod send;

@@ -14,7 +14,8 @@ use Rattle.writer.specs.declared.terms.Terms.{Terms}
 use Rattle.writer.specs.Sizes.{frame_room}
 use Rattle.writer.specs.Views.{View}
 use Rattle.writer.specs.Finishing.{closing_packets, finish_refusal}
-use Rattle.writer.specs.Admits.{by_state, by_room, or_else, refusal_for}
+use Rattle.writer.specs.Admits.{by_state, by_room, refusal_for}
+use Rattle.writer.specs.Refusals.{or_else}
 
 -- the buffers suffice
 pub record Roomy (t : Terms) (l : Lengths) : Type 0 where

@@ -4,17 +4,19 @@ use Rattle.std.proofs.lemmas.Nat.{le-div, div-add-mod'}
 use Rattle.std.proofs.lemmas.Bool.{leb-true, eqb-true, and_parts}
 use Rattle.proto.specs.declared.datanode.Datanode.{Datanode}
 use Rattle.proto.specs.declared.token.Token.{Token}
+use Rattle.chain.specs.declared.link.Link as Link
+use Rattle.pipeline.specs.Channels.{ChannelView}
 use Rattle.pipeline.specs.declared.set_up.SetupRequest.{SetupRequest}
 use Rattle.pipeline.specs.Replies.{Reply}
-use Rattle.pipeline.specs.SetUps.{SetsUp}
+use Rattle.pipeline.specs.SetUps.{Wants, SetsUp}
 use Rattle.writer.specs.declared.admit.Lengths.{Lengths}
 use Rattle.writer.specs.declared.opening.Opening.{Opening}
 use Rattle.writer.specs.declared.refusal.Refusal.{Refusal}
 use Rattle.writer.specs.declared.refusal.Refusal.TheVariants as refusal
 use Rattle.writer.specs.declared.terms.Terms.{Terms}
-use Rattle.writer.specs.Opening.{capacity_in, by_length, by_count, by_form, by_buffers, else, stage_for, block_for, open_refusal, SetsUpFor, Shut, Started, Opens}
-use Rattle.writer.specs.Settings.{Settles}
-use Rattle.writer.specs.Settling.{later_refusal, Settles as AllSettled}
+use Rattle.writer.specs.Opening.{capacity_in, by_length, by_count, by_form, by_buffers, later_refusal, stage_for, block_for, open_refusal, SetsUpFor, Shut, Started, Opens}
+use Rattle.writer.specs.Refusals.{or_else}
+use Rattle.writer.specs.Settling.{Settles}
 use Rattle.writer.specs.Views.{View}
 
 pub slots_bound : (r store k : ℕ) → 0 < k → 3 * k ≤ store → r ≡ min 101 (store / k) → (3 ≤ r) × (r ≤ 101) × (r * k ≤ store)
@@ -53,25 +55,25 @@ counts_fit o h =
 
 pub later_none : (o : Opening) (l : Lengths) → by_length o ≡ None → by_count o ≡ None → by_form o ≡ None → by_buffers o l ≡ None → later_refusal o l ≡ None
 later_none o l a b c d =
-    ap (λ (x : Option Refusal). else x (else (by_count o) (else (by_form o) (by_buffers o l)))) a
-    ∙ ap (λ (x : Option Refusal). else x (else (by_form o) (by_buffers o l))) b
-    ∙ ap (λ (x : Option Refusal). else x (by_buffers o l)) c ∙ d
+    ap (λ (x : Option Refusal). or_else x (or_else (by_count o) (or_else (by_form o) (by_buffers o l)))) a
+    ∙ ap (λ (x : Option Refusal). or_else x (or_else (by_form o) (by_buffers o l))) b
+    ∙ ap (λ (x : Option Refusal). or_else x (by_buffers o l)) c ∙ d
 
 -- the set up that was made is that of these datanodes
-pub set_up_for : {L : Type 0} (sets : L → Datanode → List ℕ → ℕ → Option (List ℕ) → L → Type 0) (o : Opening) (t : Terms) (token : Token) (nodes chain : List Datanode) (a : L) (request request' answer answer' : List ℕ) (reply : Reply) (b : L) {wanted : SetupRequest}
-    → SetsUp sets wanted nodes a request request' answer answer' reply b → nodes ≡ chain
-    → Settles (block_for o t) token t.client_name (stage_for o.initial_len) o.initial_len o.initial_len o.stamp o.chunk_size wanted
-    → SetsUpFor sets o t token chain a request request' answer answer' reply b
-set_up_for sets o t token nodes chain a request request' answer answer' reply b {wanted} s e settles = record {
+pub set_up_for : {L : Type 0} (acts : Link.Ghosts L) (o : Opening) (t : Terms) (token : Token) (nodes chain : List Datanode) (s : ChannelView L) (reply : Reply) (u : ChannelView L) {wanted : SetupRequest}
+    → SetsUp acts wanted nodes s reply u → nodes ≡ chain
+    → Wants (block_for o t) token t.client_name (stage_for o.initial_len) o.initial_len o.initial_len o.stamp o.chunk_size wanted
+    → SetsUpFor acts o t token chain s reply u
+set_up_for acts o t token nodes chain s reply u {wanted} d e wants = record {
   wanted = wanted;
-  settles = settles;
-  sets_up = subst (λ (ns : List Datanode). SetsUp sets wanted ns a request request' answer answer' reply b) e s;
+  wants = wants;
+  sets_up = subst (λ (ns : List Datanode). SetsUp acts wanted ns s reply u) e d;
 }
 
 -- an opening that is not refused before its set up
-pub opened : {L : Type 0} (sets : L → Datanode → List ℕ → ℕ → Option (List ℕ) → L → Type 0) (o : Opening) (l : Lengths) (nodes : List Datanode) (t : Terms) (token : Token) (a : L) (request request' answer answer' : List ℕ) (reply : Reply) (r : Option Refusal) (w : View) (b : L)
-    → AllSettled o l nodes t token → SetsUpFor sets o t token nodes a request request' answer answer' reply b → Started reply o l token nodes r w
-    → Opens sets (open_refusal o l) o l a request answer r w b request' answer'
-opened sets o l nodes t token a request request' answer answer' reply r w b s f d =
-    subst (λ (z : Option Refusal). Opens sets z o l a request answer r w b request' answer') (sym s.good)
-    (record { nodes = nodes; rows = s.rows; token = token; given = s.given; terms = t; settled = s.terms; reply = reply; sets_up = f; then = d })
+pub opened : {L : Type 0} (acts : Link.Ghosts L) (o : Opening) (l : Lengths) (nodes : List Datanode) (t : Terms) (token : Token) (s : ChannelView L) (reply : Reply) (r : Option Refusal) (w : View) (u : ChannelView L)
+    → Settles (open_refusal o l) o l nodes t token → SetsUpFor acts o t token nodes s reply u → Started reply o l token nodes r w
+    → Opens acts (open_refusal o l) o l s r w u
+opened acts o l nodes t token s reply r w u d f z =
+    subst (λ (x : Option Refusal). Opens acts x o l s r w u) (sym d.good)
+    (record { nodes = nodes; rows = d.rows; token = token; given = d.given; terms = t; settled = d.terms; reply = reply; sets_up = f; follows = z })

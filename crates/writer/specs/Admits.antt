@@ -1,5 +1,5 @@
 -- Which calls are refused before anything is done, and by what. Assumes nothing.
-use Rattle.std.specs.Prelude.{ℕ, cond, ◌&&◌, List, length, Some, None, Option, ◌==◌, nat_le}
+use Rattle.std.specs.Prelude.{ℕ, if◌then◌else◌, ◌&&◌, List, length, Some, None, Option, ◌==◌, nat_le}
 use Rattle.writer.specs.declared.admit.Call.{Call}
 use Rattle.writer.specs.declared.admit.Call.TheVariants as call
 use Rattle.writer.specs.declared.admit.Lengths.{Lengths}
@@ -8,6 +8,7 @@ use Rattle.writer.specs.declared.refusal.Refusal.TheVariants as refusal
 use Rattle.writer.specs.declared.state.kind.State.{State}
 use Rattle.writer.specs.declared.state.kind.State.TheVariants.{Streaming, Finishing, Broken, Complete, Closed}
 use Rattle.writer.specs.declared.terms.Terms.{Terms}
+use Rattle.writer.specs.Refusals.{or_else}
 use Rattle.writer.specs.Sizes.{frame_room}
 use Rattle.writer.specs.Views.{View}
 
@@ -44,16 +45,14 @@ by_state Closed c = Some refusal.Closed
 -- the store has the length that it was opened with; the frame buffer holds every frame, and the others 4,096 octets
 abbrev pub by_room : Terms → Lengths → Option Refusal
 by_room t l =
-    cond (l.store == t.store_len)
-    (cond (nat_le (frame_room t) l.frame && (nat_le 4096 l.request && nat_le 4096 l.answer)) None (Some refusal.Buffer))
-    (Some refusal.Store)
-
-abbrev pub or_else : Option Refusal → Option Refusal → Option Refusal
-or_else (Some r) s = Some r
-or_else None s = s
+    if l.store == t.store_len then
+    (if nat_le (frame_room t) l.frame && (nat_le 4096 l.request && nat_le 4096 l.answer) then None
+      else Some refusal.Buffer)
+    else Some refusal.Store
 
 abbrev pub refusal_for : View → Call → Lengths → Option Refusal
 refusal_for v c l = or_else (by_state v.state c) (by_room v.terms l)
 
 abbrev pub lengths_of : List ℕ → List ℕ → List ℕ → List ℕ → Lengths
-lengths_of store frame request answer = record { store = length store; frame = length frame; request = length request; answer = length answer }
+lengths_of store frame request answer =
+    record { store = length store; frame = length frame; request = length request; answer = length answer }

@@ -1,11 +1,12 @@
 -- What a writer makes of an answer: its state and what was heard decide together. Assumes nothing.
-use Rattle.std.specs.Prelude.{◌≡◌, ℕ, Bool, cond, ◌&&◌, List, Some, None, Ok, Err, Option, Result, ◌==◌, nat_lt}
+use Rattle.std.specs.Prelude.{◌≡◌, ℕ, Bool, if◌then◌else◌, ◌&&◌, Some, None, Ok, Err, Result, ◌==◌, nat_lt}
 use Rattle.ack.specs.declared.ack.Verdict.{Verdict}
 use Rattle.ack.specs.declared.ack.Verdict.TheVariants as verdict
+use Rattle.chain.specs.declared.link.Link as Link
 use Rattle.chain.specs.Acts.{Came}
 use Rattle.sending.specs.declared.ask.AskError.TheVariants as ask
 use Rattle.sending.specs.Asking.{Heard, heard_in, answer_over}
-use Rattle.writer.specs.declared.cause.Cause.TheVariants.{Link, Replies, Decoding}
+use Rattle.writer.specs.declared.cause.Cause.TheVariants as cause
 use Rattle.writer.specs.declared.heed.Decision.{Decision}
 use Rattle.writer.specs.declared.heed.Decision.TheVariants as decision
 use Rattle.writer.specs.declared.heed.Heeded.{Heeded}
@@ -13,6 +14,7 @@ use Rattle.writer.specs.declared.heed.Heeded.TheVariants as heeded
 use Rattle.writer.specs.declared.refusal.Refusal.{Refusal}
 use Rattle.writer.specs.declared.refusal.Refusal.TheVariants as refusal
 use Rattle.writer.specs.declared.state.kind.State.TheVariants.{Complete, Closed}
+use Rattle.writer.specs.Calls.{Listener}
 use Rattle.writer.specs.States.{ended, listens}
 use Rattle.writer.specs.Views.{View, with_state, without_first, broken_by}
 
@@ -22,13 +24,15 @@ awaits v n = nat_lt 0 v.count && n == v.first
 
 -- a packet is confirmed only in its turn; of a finished block the one that is held alone is the last
 abbrev pub if_last : View → ℕ → Bool → Decision
-if_last v n last = cond (awaits v n) (cond last (decision.Complete n) (decision.Confirm n)) (decision.Close refusal.Unexpected)
+if_last v n last =
+    if awaits v n then (if last then decision.Complete n else decision.Confirm n)
+    else decision.Close refusal.Unexpected
 
 abbrev pub on_packet : View → ℕ → Decision
 on_packet v n = if_last v n (ended v.state && v.count == 1)
 
 abbrev pub on_verdict : View → Verdict → Decision
-on_verdict v (verdict.Failed nodes) = decision.Break (Replies nodes)
+on_verdict v (verdict.Failed nodes) = decision.Break (cause.Replies nodes)
 on_verdict v verdict.HeartBeat = decision.Beat
 on_verdict v verdict.UnknownSeqno = decision.Close refusal.UnknownSeqno
 on_verdict v (verdict.Packet n) = on_packet v n
@@ -36,17 +40,17 @@ on_verdict v (verdict.Packet n) = on_packet v n
 abbrev pub on_heard : View → Heard → Decision
 on_heard v (Ok None) = decision.Wait
 on_heard v (Ok (Some x)) = on_verdict v x
-on_heard v (Err ask.Lost) = decision.Break Link
-on_heard v (Err (ask.Undecodable e)) = decision.Break (Decoding e)
+on_heard v (Err ask.Lost) = decision.Break cause.Link
+on_heard v (Err (ask.Undecodable e)) = decision.Break (cause.Decoding e)
 
 -- only a whole pipeline is listened to
 abbrev pub decided : View → Heard → Decision
-decided v h = cond (listens v.state) (on_heard v h) decision.Wait
+decided v h = if listens v.state then on_heard v h else decision.Wait
 
 abbrev pub answer_of : Decision → Result Heeded Refusal
 answer_of decision.Wait = Ok heeded.Nothing
 answer_of decision.Beat = Ok heeded.HeartBeat
-answer_of (decision.Break cause) = Ok (heeded.Broken cause)
+answer_of (decision.Break why) = Ok (heeded.Broken why)
 answer_of (decision.Close r) = Err r
 answer_of (decision.Confirm n) = Ok (heeded.Confirmed n)
 answer_of (decision.Complete n) = Ok (heeded.Complete n)
@@ -54,20 +58,15 @@ answer_of (decision.Complete n) = Ok (heeded.Complete n)
 abbrev pub after : View → Decision → View
 after v decision.Wait = v
 after v decision.Beat = v
-after v (decision.Break cause) = broken_by cause v
+after v (decision.Break why) = broken_by why v
 after v (decision.Close r) = with_state Closed v
 after v (decision.Confirm n) = without_first v
 after v (decision.Complete n) = with_state Complete (without_first v)
 
 -- the link was asked once; result, writer and buffer are what came of it
-pub record Hears {L : Type 0} (nexts : L → Came → L → Type 0) (v : View) (a : L) (before : List ℕ) (r : Result Heeded Refusal) (w : View) (b : L) (buffer : List ℕ) : Type 0 where
+pub record Heeds {L : Type 0} (acts : Link.Ghosts L) (s : Listener L) (r : Result Heeded Refusal) (t : Listener L) : Type 0 where
   pub came : Came
-  pub acted : nexts a came b
-  pub result : r ≡ answer_of (decided v (heard_in came))
-  pub writer : w ≡ after v (decided v (heard_in came))
-  pub answer : buffer ≡ answer_over came before
-
--- a refused call leaves everything
-abbrev pub Heeds : {L : Type 0} → (L → Came → L → Type 0) → Option Refusal → View → L → List ℕ → Result Heeded Refusal → View → L → List ℕ → Type 0
-Heeds nexts (Some refusal) v a before r w b buffer = (r ≡ Err refusal) × (w ≡ v) × (b ≡ a) × (buffer ≡ before)
-Heeds nexts None v a before r w b buffer = Hears nexts v a before r w b buffer
+  pub acted : acts.nexts s.link came t.link
+  pub result : r ≡ answer_of (decided s.view (heard_in came))
+  pub writer : t.view ≡ after s.view (decided s.view (heard_in came))
+  pub answer : t.answer ≡ answer_over came s.answer

@@ -3,13 +3,13 @@ pub mod Refusals
 pub mod Sizes
 pub mod States
 pub mod Views
+pub mod Calls
 pub mod Admits
 pub mod Writing
 pub mod Heeding
 pub mod Beating
 pub mod Finishing
 pub mod Closing
-pub mod Settings
 pub mod Opening
 pub mod Settling
 pub mod Replaying

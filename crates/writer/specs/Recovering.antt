@@ -1,48 +1,27 @@
--- A broken pipeline rebuilt, stage by stage. What each stage came to decides whether the next one follows. Assumes nothing.
-use Rattle.std.specs.Prelude.{◌≡◌, ℕ, ◌≤◌, Bool, true, false, cond, List, length, Some, None, Ok, Err, Option, Result, ◌==◌, nat_le}
-use Rattle.ack.specs.declared.tally.FailedNodes.{FailedNodes}
+-- A broken pipeline rebuilt, stage by stage. What each stage came to decides whether the next one follows. Assumes
+-- nothing.
+use Rattle.std.specs.Prelude.{◌≡◌, ℕ, ◌≤◌, Bool, true, false, if◌then◌else◌, List, length, Some, None, Ok, Err, Option, Result, ◌==◌, nat_le}
 use Rattle.proto.specs.declared.datanode.Datanode.{Datanode}
 use Rattle.proto.specs.declared.token.Token.{Token}
-use Rattle.proto.specs.Messages.{octets_in}
-use Rattle.proto.specs.Rules.{is_token}
-use Rattle.request.specs.declared.stage.Stage.TheVariants.{SetupStreamingRecovery}
 use Rattle.replace.specs.Decision.{should_replace}
-use Rattle.namenode.specs.Entries.{Entry, Ask, Offer, entry_for}
+use Rattle.chain.specs.declared.link.Link as Link
+use Rattle.namenode.specs.declared.protocol.NamenodeProtocol as Namenode
 use Rattle.pipeline.specs.declared.add_datanode.NoDatanode.{NoDatanode}
-use Rattle.pipeline.specs.declared.set_up.SetupRequest.{SetupRequest}
-use Rattle.pipeline.specs.Channels.{Line}
+use Rattle.pipeline.specs.Channels.{ChannelView}
 use Rattle.pipeline.specs.Adding.{Added, Adds}
-use Rattle.pipeline.specs.Replies.{Reply}
-use Rattle.pipeline.specs.SetUps.{SetsUp}
 use Rattle.pipeline.specs.Survivors.{survivors, failed_of}
-use Rattle.writer.specs.declared.cause.Cause.TheVariants.{Put}
 use Rattle.writer.specs.declared.recover.Recovered.{Recovered}
+use Rattle.writer.specs.declared.recovery.Replayed.{Replayed}
+use Rattle.writer.specs.declared.recovery.SetUp.{SetUp}
+use Rattle.writer.specs.declared.recovery.Stamped.{Stamped}
 use Rattle.writer.specs.declared.refusal.Refusal.{Refusal}
 use Rattle.writer.specs.declared.refusal.Refusal.TheVariants as refusal
-use Rattle.writer.specs.declared.state.kind.State.{State}
-use Rattle.writer.specs.declared.state.kind.State.TheVariants.{Streaming, Finishing, Broken, Complete, Closed}
-use Rattle.writer.specs.Causes.{first_failed, failed_in}
+use Rattle.writer.specs.declared.state.kind.State.TheVariants.{Closed}
+use Rattle.writer.specs.Calls.{Site}
 use Rattle.writer.specs.Closing.{record_of}
-use Rattle.writer.specs.Replaying.{Replays}
-use Rattle.writer.specs.Settings.{Settles}
-use Rattle.writer.specs.States.{ended}
-use Rattle.writer.specs.Views.{View, chunk_of, least_of, held_in, with_state}
-
--- what a recovery works on besides the writer and its store
-pub record Site (L N : Type 0) : Type 0 where
-  pub link : L
-  pub namenode : N
-  pub frame : List ℕ
-  pub request : List ℕ
-  pub answer : List ℕ
-
--- the nodes that failed; of a pipeline that is not broken none is asked for
-abbrev pub failed_on : State → FailedNodes
-failed_on Streaming = first_failed
-failed_on Finishing = first_failed
-failed_on (Broken cause finished) = failed_in cause
-failed_on Complete = first_failed
-failed_on Closed = first_failed
+use Rattle.writer.specs.Stages.{Stamps, SetsUpOn, ReplaysOn, UpdatesOn}
+use Rattle.writer.specs.States.{failed_on}
+use Rattle.writer.specs.Views.{View, least_of, with_state}
 
 abbrev pub left_of : View → List Datanode
 left_of v = survivors (failed_on v.state).positions v.nodes
@@ -53,9 +32,9 @@ gone_of v = failed_of (failed_on v.state).positions v.nodes
 -- no datanode is left, or a position lies past the pipeline
 abbrev pub beyond : View → Option Refusal
 beyond v =
-    cond (nat_le (length v.nodes) (failed_on v.state).count) (Some refusal.AllFailed)
-    (cond (nat_le (length v.nodes) (failed_on v.state).highest) (Some refusal.PastPipeline)
-    (cond (length (left_of v) == 0) (Some refusal.AllFailed) None))
+    if nat_le (length v.nodes) (failed_on v.state).count then Some refusal.AllFailed else
+    (if nat_le (length v.nodes) (failed_on v.state).highest then Some refusal.PastPipeline else
+    (if length (left_of v) == 0 then Some refusal.AllFailed else None))
 
 -- where there is no such refusal, those that are left, of whom there are some, and those that are gone
 abbrev pub Ready : Option Refusal → View → List Datanode → List Datanode → Type 0
@@ -80,119 +59,86 @@ abbrev pub chain_on : Added → List Datanode → List Datanode → List Datanod
 chain_on (Ok places) left list = list
 chain_on (Err why) left list = left
 
--- the pipeline is whole again, or broken by a packet that was lost
-abbrev pub state_on : Option ℕ → Bool → State
-state_on None true = Finishing
-state_on None false = Streaming
-state_on (Some n) finished = Broken (Put n) finished
+module _ {L N : Type 0} (acts : Link.Ghosts L) (asks : Namenode.Ghosts N) where
+  -- a datanode added, or why not
+  pub record Replaces (v : View) (s : ChannelView L) (n : N) (r : Choice) (chain : List Datanode)
+      (t : ChannelView L) (m : N) : Type 0 where
+    pub table : List Datanode
+    pub list : List Datanode
+    pub added : Added
+    pub adds : Adds acts asks (record_of v) v.terms.client_name v.nodes (left_of v) (gone_of v) table list s n added t m
+    pub result : r ≡ choice_on v.terms.replace.best_effort added
+    pub is : chain ≡ chain_on added (left_of v) list
 
-abbrev pub is_lost : Option ℕ → Bool
-is_lost None = false
-is_lost (Some n) = true
+  -- the new pipeline
+  abbrev pub ChoosesIf : Bool → View → ChannelView L → N → Choice → List Datanode → ChannelView L → N → Type 0
+  ChoosesIf true v s n r chain t m = Replaces v s n r chain t m
+  ChoosesIf false v s n r chain t m = (r ≡ Ok None) × (chain ≡ left_of v) × (t ≡ s) × (m ≡ n)
 
-abbrev pub restored : Option ℕ → ℕ → Token → List Datanode → ℕ → View → View
-restored lost stamp token nodes time v = record {
-  terms = v.terms;
-  state = state_on lost (ended v.state);
-  stamp = stamp;
-  token = token;
-  len = v.len;
-  first = v.first;
-  count = v.count;
-  filling = v.filling;
-  beaten = time;
-  sizes = v.sizes;
-  nodes = nodes;
-}
+  -- refused at some stage: the writer is closed, and what the stages before have left stays
+  abbrev pub Ended : Refusal → Site L N → Result Recovered Refusal → Site L N → Type 0
+  Ended why s r t = (r ≡ Err why) × (t ≡ record s { view = with_state Closed s.view })
 
--- a datanode added, or why not
-pub record Replaces {L N : Type 0} (transfers : L → Datanode → List ℕ → Option (List ℕ) → L → Type 0) (lists : N → Ask → Option Offer → N → Type 0) (v : View) (s : Line L) (n : N) (r : Choice) (chain : List Datanode) (t : Line L) (m : N) : Type 0 where
-  pub table : List Datanode
-  pub list : List Datanode
-  pub added : Added
-  pub adds : Adds transfers lists (record_of v) v.terms.client_name v.nodes (left_of v) (gone_of v) table list s n added t m
-  pub result : r ≡ choice_on v.terms.replace.best_effort added
-  pub is : chain ≡ chain_on added (left_of v) list
+  abbrev pub AfterUpdate : Result Recovered Refusal → Site L N → Result Recovered Refusal → Site L N → Type 0
+  AfterUpdate (Ok x) s r t = (r ≡ Ok x) × (t ≡ s)
+  AfterUpdate (Err why) s r t = Ended why s r t
 
--- the new pipeline
-abbrev pub ChoosesIf : {L N : Type 0} → (L → Datanode → List ℕ → Option (List ℕ) → L → Type 0) → (N → Ask → Option Offer → N → Type 0) → Bool → View → Line L → N → Choice → List Datanode → Line L → N → Type 0
-ChoosesIf transfers lists true v s n r chain t m = Replaces transfers lists v s n r chain t m
-ChoosesIf transfers lists false v s n r chain t m = (r ≡ Ok None) × (chain ≡ left_of v) × (t ≡ s) × (m ≡ n)
+  -- set up: all held packets are put again, and the namenode is told
+  pub record Resumes (q : SetUp) (token : Token) (choice : Option (ℕ × ℕ)) (chain : List Datanode) (time : ℕ)
+      (s : Site L N) (r : Result Recovered Refusal) (t : Site L N) : Type 0 where
+    pub replayed : Replayed
+    pub frame : List ℕ
+    pub link : L
+    pub replays : ReplaysOn acts s.view s.store q s.frame s.channel.link replayed frame link
+    pub told : Result Recovered Refusal
+    pub view : View
+    pub namenode : N
+    pub updates : UpdatesOn asks replayed token choice chain time s.view s.namenode told view namenode
+    pub follows : AfterUpdate told
+        (record s { view = view; frame = frame; channel = record s.channel { link = link }; namenode = namenode }) r t
 
-module _ {L N : Type 0} (sets : L → Datanode → List ℕ → ℕ → Option (List ℕ) → L → Type 0) (puts : L → List ℕ → Bool → L → Type 0) (transfers : L → Datanode → List ℕ → Option (List ℕ) → L → Type 0)
-    (lists : N → Ask → Option Offer → N → Type 0) (stamps : N → ℕ → Option (ℕ × List ℕ) → N → Type 0) (updates : N → Entry → Bool → N → Type 0) where
-  abbrev pub line_of : Site L N → Line L
-  line_of s = record { link = s.link; request = s.request; answer = s.answer }
+  abbrev pub AfterSetUp : Result SetUp Refusal → Token → Option (ℕ × ℕ) → List Datanode → ℕ
+      → Site L N → Result Recovered Refusal → Site L N → Type 0
+  AfterSetUp (Ok q) token choice chain time s r t = Resumes q token choice chain time s r t
+  AfterSetUp (Err why) token choice chain time s r t = Ended why s r t
 
-  -- refused at some stage: the writer is closed, and what that stage left stays
-  abbrev pub Ended : Refusal → View → Result Recovered Refusal → View → Type 0
-  Ended refusal v r w = (r ≡ Err refusal) × (w ≡ with_state Closed v)
+  -- stamped: the pipeline is set up
+  pub record Builds (q : Stamped) (token : Token) (choice : Option (ℕ × ℕ)) (chain : List Datanode) (time : ℕ)
+      (s : Site L N) (r : Result Recovered Refusal) (t : Site L N) : Type 0 where
+    pub set_up : Result SetUp Refusal
+    pub channel : ChannelView L
+    pub sets_up : SetsUpOn acts s.view token chain q s.channel set_up channel
+    pub follows : AfterSetUp set_up token choice chain time (record s { channel = channel }) r t
 
-  -- the namenode has taken the update, or not; `set` are the datanodes of a set up that was answered
-  abbrev pub Updated : Bool → View → Option (ℕ × ℕ) → ℕ → Token → List Datanode → ℕ → ℕ → Option ℕ → Result Recovered Refusal → View → Type 0
-  Updated true v choice stamp token chain time n lost r w =
-      (r ≡ Ok (record { choice = choice; stamp = stamp; replayed = n; put_lost = is_lost lost })) × (w ≡ restored lost stamp token chain time v)
-  Updated false v choice stamp token chain time n lost r w = Ended refusal.Update v r w
+  abbrev pub AfterStamp : Result (Stamped × Token) Refusal → Option (ℕ × ℕ) → List Datanode → ℕ
+      → Site L N → Result Recovered Refusal → Site L N → Type 0
+  AfterStamp (Ok q) choice chain time s r t = Builds q.0 q.1 choice chain time s r t
+  AfterStamp (Err why) choice chain time s r t = Ended why s r t
 
-  -- all held packets are put again, and the namenode is told
-  pub record Resumes (v : View) (store : List ℕ) (time : ℕ) (choice : Option (ℕ × ℕ)) (chain : List Datanode) (stamp : ℕ) (token : Token) (frame : List ℕ) (a : L) (n : N) (r : Result Recovered Refusal) (w : View) (t : Site L N) : Type 0 where
-    pub count : ℕ
-    pub lost : Option ℕ
-    pub replays : Replays puts (held_in v store (least_of v)) frame a count lost t.frame t.link
-    pub accepted : Bool
-    pub updated : updates n (entry_for stamp v.len chain) accepted t.namenode
-    pub is : Updated accepted v choice stamp token chain time count lost r w
+  -- counted: the namenode is asked for a stamp
+  pub record AsksStamp (choice : Option (ℕ × ℕ)) (chain : List Datanode) (time : ℕ)
+      (s : Site L N) (r : Result Recovered Refusal) (t : Site L N) : Type 0 where
+    pub stamped : Result (Stamped × Token) Refusal
+    pub namenode : N
+    pub stamps : Stamps asks (least_of s.view) s.view.len s.namenode stamped namenode
+    pub follows : AfterStamp stamped choice chain time (record s { namenode = namenode }) r t
 
-  -- what follows a response to the set up
-  abbrev pub Answered : Reply → View → List ℕ → ℕ → Option (ℕ × ℕ) → List Datanode → ℕ → Token → List ℕ → L → N → Result Recovered Refusal → View → Site L N → Type 0
-  Answered (Ok _) v store time choice chain stamp token frame a n r w t = Resumes v store time choice chain stamp token frame a n r w t
-  Answered (Err why) v store time choice chain stamp token frame a n r w t = Ended (refusal.Recovery why) v r w × (t.frame ≡ frame) × (t.link ≡ a) × (t.namenode ≡ n)
-
-  -- the pipeline is set up with the old stamp in the block and the new one beside it
-  pub record Builds (v : View) (store : List ℕ) (time : ℕ) (choice : Option (ℕ × ℕ)) (chain : List Datanode) (stamp : ℕ) (octets frame : List ℕ) (s : Line L) (n : N) (r : Result Recovered Refusal) (w : View) (t : Site L N) : Type 0 where
-    pub token : Token
-    pub given : octets_in token.message ≡ octets
-    pub wanted : SetupRequest
-    pub settles : Settles (record_of v) token v.terms.client_name SetupStreamingRecovery (least_of v) v.len stamp (chunk_of v) wanted
-    pub reply : Reply
-    pub between : L
-    pub sets_up : SetsUp sets wanted chain s.link s.request t.request s.answer t.answer reply between
-    pub then : Answered reply v store time choice chain stamp token frame between n r w t
-
-  -- what follows a stamp: its token must be in form
-  abbrev pub Tokened : Bool → View → List ℕ → ℕ → Option (ℕ × ℕ) → List Datanode → ℕ → List ℕ → List ℕ → Line L → N → Result Recovered Refusal → View → Site L N → Type 0
-  Tokened true v store time choice chain stamp octets frame s n r w t = Builds v store time choice chain stamp octets frame s n r w t
-  Tokened false v store time choice chain stamp octets frame s n r w t = Ended refusal.Stamp v r w × (line_of t ≡ s) × (t.frame ≡ frame) × (t.namenode ≡ n)
-
-  abbrev pub Stamped : Option (ℕ × List ℕ) → View → List ℕ → ℕ → Option (ℕ × ℕ) → List Datanode → List ℕ → Line L → N → Result Recovered Refusal → View → Site L N → Type 0
-  Stamped None v store time choice chain frame s n r w t = Ended refusal.Stamp v r w × (line_of t ≡ s) × (t.frame ≡ frame) × (t.namenode ≡ n)
-  Stamped (Some given) v store time choice chain frame s n r w t = Tokened (is_token given.1) v store time choice chain given.0 given.1 frame s n r w t
-
-  -- the namenode is asked for a stamp
-  pub record AsksStamp (v : View) (store : List ℕ) (time : ℕ) (choice : Option (ℕ × ℕ)) (chain : List Datanode) (frame : List ℕ) (s : Line L) (n : N) (r : Result Recovered Refusal) (w : View) (t : Site L N) : Type 0 where
-    pub came : Option (ℕ × List ℕ)
-    pub between : N
-    pub acted : stamps n v.len came between
-    pub then : Stamped came v store time choice chain frame s between r w t
-
-  abbrev pub Chosen : Choice → View → List ℕ → ℕ → List Datanode → List ℕ → Line L → N → Result Recovered Refusal → View → Site L N → Type 0
-  Chosen (Ok choice) v store time chain frame s n r w t = AsksStamp v store time choice chain frame s n r w t
-  Chosen (Err why) v store time chain frame s n r w t = Ended (refusal.Replacement why) v r w × (line_of t ≡ s) × (t.frame ≡ frame) × (t.namenode ≡ n)
+  abbrev pub AfterChoice : Choice → List Datanode → ℕ → Site L N → Result Recovered Refusal → Site L N → Type 0
+  AfterChoice (Ok choice) chain time s r t = AsksStamp choice chain time s r t
+  AfterChoice (Err why) chain time s r t = Ended (refusal.Replacement why) s r t
 
   -- a pipeline is chosen
-  pub record Rebuilds (v : View) (store : List ℕ) (time : ℕ) (s : Site L N) (r : Result Recovered Refusal) (w : View) (t : Site L N) : Type 0 where
+  pub record Rebuilds (time : ℕ) (s : Site L N) (r : Result Recovered Refusal) (t : Site L N) : Type 0 where
     pub choice : Choice
     pub chain : List Datanode
-    pub line : Line L
+    pub channel : ChannelView L
     pub namenode : N
-    pub chooses : ChoosesIf transfers lists (wants v) v (line_of s) s.namenode choice chain line namenode
-    pub then : Chosen choice v store time chain s.frame line namenode r w t
+    pub chooses : ChoosesIf (wants s.view) s.view s.channel s.namenode choice chain channel namenode
+    pub follows : AfterChoice choice chain time (record s { channel = channel; namenode = namenode }) r t
 
-  abbrev pub Survived : Option Refusal → View → List ℕ → ℕ → Site L N → Result Recovered Refusal → View → Site L N → Type 0
-  Survived (Some refusal) v store time s r w t = Ended refusal v r w × (t ≡ s)
-  Survived None v store time s r w t = Rebuilds v store time s r w t
+  abbrev pub IfSurvived : Option Refusal → ℕ → Site L N → Result Recovered Refusal → Site L N → Type 0
+  IfSurvived (Some why) time s r t = Ended why s r t
+  IfSurvived None time s r t = Rebuilds time s r t
 
-  -- a refused call leaves everything
-  abbrev pub Recovers : Option Refusal → View → List ℕ → ℕ → Site L N → Result Recovered Refusal → View → Site L N → Type 0
-  Recovers (Some refusal) v store time s r w t = (r ≡ Err refusal) × (w ≡ v) × (t ≡ s)
-  Recovers None v store time s r w t = Survived (beyond v) v store time s r w t
+  abbrev pub Recovers : ℕ → Site L N → Result Recovered Refusal → Site L N → Type 0
+  Recovers time s r t = IfSurvived (beyond s.view) time s r t

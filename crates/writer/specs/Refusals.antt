@@ -1,5 +1,5 @@
--- The numbers of refusals. Assumes nothing.
-use Rattle.std.specs.Prelude.{ℕ}
+-- The numbers of refusals, and which of two counts. Assumes nothing.
+use Rattle.std.specs.Prelude.{ℕ, Some, None, Option}
 use Rattle.writer.specs.declared.refusal.Refusal.{Refusal}
 use Rattle.writer.specs.declared.refusal.Refusal.TheVariants as refusal
 
@@ -28,3 +28,8 @@ number_of refusal.Complete = 24
 number_of refusal.Whole = 25
 number_of refusal.Places = 26
 number_of (refusal.Incomplete n) = 27
+
+-- the first of two that there is
+abbrev pub or_else : Option Refusal → Option Refusal → Option Refusal
+or_else (Some r) s = Some r
+or_else None s = s

@@ -10,7 +10,7 @@ use Rattle.writer.specs.declared.opening.Opening.{Opening}
 use Rattle.writer.specs.declared.refusal.Refusal.{Refusal}
 use Rattle.writer.specs.declared.refusal.Refusal.TheVariants as refusal
 use Rattle.writer.specs.declared.terms.Terms.{Terms}
-use Rattle.writer.specs.Opening.{rows_in, by_length, by_count, by_form, by_buffers, else, open_refusal, TermsFor}
+use Rattle.writer.specs.Opening.{rows_in, by_form, later_refusal, open_refusal, TermsFor}
 use Rattle.writer.specs.Sizes.{capacity}
 
 -- all in form
@@ -34,32 +34,24 @@ pub record Fits (t : Terms) : Type 0 where
   pub block : t.block_size < 2 ^ 63
   pub id : t.block_id < 2 ^ 64
 
-pub record Settles (o : Opening) (l : Lengths) (nodes : List Datanode) (t : Terms) (token : Token) : Type 0 where
-  pub good : open_refusal o l ≡ None
+-- none of these refusals fits, and what is settled comes of the opening
+pub record Settles (refused : Option Refusal) (o : Opening) (l : Lengths) (nodes : List Datanode)
+    (t : Terms) (token : Token) : Type 0 where
+  pub good : refused ≡ None
   pub terms : TermsFor o l t
   pub fits : Fits t
   pub given : octets_in token.message ≡ o.token.now
   pub rows : Rows (rows_in o) nodes
   pub some : 1 ≤ length nodes
   pub few : length nodes ≤ 8
+
+abbrev pub SettledBy : Option Refusal → Opening → Lengths → List Datanode → Result (Terms × Token) Refusal → Type 0
+SettledBy refused o l nodes (Ok x) = Settles refused o l nodes x.0 x.1
+SettledBy refused o l nodes (Err e) = refused ≡ Some e
 
 -- the sizes are accepted already
-abbrev pub later_refusal : Opening → Lengths → Option Refusal
-later_refusal o l = else (by_length o) (else (by_count o) (else (by_form o) (by_buffers o l)))
-
-pub record SettlesSized (o : Opening) (l : Lengths) (nodes : List Datanode) (t : Terms) (token : Token) : Type 0 where
-  pub good : later_refusal o l ≡ None
-  pub terms : TermsFor o l t
-  pub fits : Fits t
-  pub given : octets_in token.message ≡ o.token.now
-  pub rows : Rows (rows_in o) nodes
-  pub some : 1 ≤ length nodes
-  pub few : length nodes ≤ 8
-
 abbrev pub SettledSized : Opening → Lengths → List Datanode → Result (Terms × Token) Refusal → Type 0
-SettledSized o l nodes (Ok x) = SettlesSized o l nodes x.0 x.1
-SettledSized o l nodes (Err e) = later_refusal o l ≡ Some e
+SettledSized o l nodes r = SettledBy (later_refusal o l) o l nodes r
 
 abbrev pub Settled : Opening → Lengths → List Datanode → Result (Terms × Token) Refusal → Type 0
-Settled o l nodes (Ok x) = Settles o l nodes x.0 x.1
-Settled o l nodes (Err e) = open_refusal o l ≡ Some e
+Settled o l nodes r = SettledBy (open_refusal o l) o l nodes r

@@ -3,9 +3,10 @@ ghost use Rattle.std.specs.Prelude.{◌≡◌, ◌+◌, ◌≤◌, length};
 ghost use Rattle.writer.specs.declared.admit.Call.TheVariants as call;
 ghost use Rattle.writer.specs.declared.state.kind.State.TheVariants.{Streaming};
 ghost use Rattle.writer.specs.Admits.{refusal_for, lengths_of};
+ghost use Rattle.writer.specs.Calls.{streamer_of, UnlessRefused};
 ghost use Rattle.writer.specs.Sizes.{frame_room};
 ghost use Rattle.writer.specs.Views.{view_of};
-ghost use Rattle.writer.specs.Beating.{is_due, BeatsIf, Beats, Puts as PutsBeat};
+ghost use Rattle.writer.specs.Beating.{is_due, PutsBeat, BeatsIf, Beats};
 
 use crate::admit::{Call, Lengths};
 use crate::cause::Cause;
@@ -20,7 +21,7 @@ use sending::put::put_packet;
 /// A heartbeat is put when so many seconds have passed.
 pub const HEARTBEAT_INTERVAL_SECONDS: u64 = 30;
 
-/// What came of a beat. Stays an enum: none of the three is an error, the call was acted on.
+/// What came of a beat. None of the three is an error: the call was acted on.
 #[derive(Clone, Copy, Debug, PartialEq, Eq)]
 pub enum Beat {
     /// It is not time yet.
@@ -49,7 +50,9 @@ impl Writer {
     ) -> Result<Beat, Refusal>
         requires state_value { self.old.state ≡ Streaming }
         requires terms_in_bounds { frame_room self.old.terms ≤ length frame.old }
-        ensures { PutsBeat L.Link.puts (record { view = view_of self.old; store = store.now; frame = frame.old; link = link.old }) time result (record { view = view_of self.new; store = store.now; frame = frame.new; link = link.new }) }
+        ensures {
+            PutsBeat L.Link time (streamer_of self.old store.now frame.old link.old) result
+                (streamer_of self.new store.now frame.new link.new) }
     {
         let packet = WritePacket {
             offset: 0,
@@ -78,7 +81,13 @@ impl Writer {
         answer: &[u8],
         time: u64,
     ) -> Result<Beat, Refusal>
-        ensures { Beats L.Link.puts (refusal_for (view_of self.old) call.Beat (lengths_of store.now frame.old request.now answer.now)) (record { view = view_of self.old; store = store.now; frame = frame.old; link = link.old }) time result (record { view = view_of self.new; store = store.now; frame = frame.new; link = link.new }) }
+        ensures {
+            UnlessRefused
+                (refusal_for (view_of self.old) call.Beat
+                    (lengths_of store.now frame.old request.now answer.now))
+                (Beats L.Link time)
+                (streamer_of self.old store.now frame.old link.old) result
+                (streamer_of self.new store.now frame.new link.new) }
     {
         self.admit(Call::Beat, Lengths::of(store, frame, request, answer))?;
         self.beat_if_due(link, store, frame, time)
@@ -93,7 +102,10 @@ impl Writer {
     ) -> Result<Beat, Refusal>
         requires state_value { self.old.state ≡ Streaming }
         requires terms_in_bounds { frame_room self.old.terms ≤ length frame.old }
-        ensures { BeatsIf (is_due (view_of self.old) time) L.Link.puts (record { view = view_of self.old; store = store.now; frame = frame.old; link = link.old }) time result (record { view = view_of self.new; store = store.now; frame = frame.new; link = link.new }) }
+        ensures {
+            BeatsIf L.Link (is_due (view_of self.old) time) time
+                (streamer_of self.old store.now frame.old link.old) result
+                (streamer_of self.new store.now frame.new link.new) }
     {
         if !self.is_due(time) {
             return Ok(Beat::Idle);

@@ -1,9 +1,10 @@
 //! The end of a block.
-ghost use Rattle.std.specs.Prelude.{◌≡◌, ◌+◌, ◌<◌, ◌≤◌, cond, not, length, ◌==◌};
+ghost use Rattle.std.specs.Prelude.{◌≡◌, ◌+◌, ◌<◌, ◌≤◌, not, length, ◌==◌};
 ghost use Rattle.std.specs.Result.{result_err};
 ghost use Rattle.writer.specs.declared.admit.Call.TheVariants as call;
 ghost use Rattle.writer.specs.declared.state.kind.State.TheVariants.{Streaming};
-ghost use Rattle.writer.specs.Admits.{refusal_for, lengths_of};
+ghost use Rattle.writer.specs.Admits.{lengths_of};
+ghost use Rattle.writer.specs.Calls.{streamer_of, UnlessRefused};
 ghost use Rattle.writer.specs.Sizes.{frame_room};
 ghost use Rattle.writer.specs.Views.{view_of};
 ghost use Rattle.writer.specs.Finishing.{closing_packets, finish_refusal, unsent_last, Ends, Empties, EndsIf, Finishes};
@@ -43,7 +44,9 @@ impl Writer {
         requires terms_in_bounds { frame_room self.old.terms ≤ length frame.old }
         requires filling_value { self.old.filling ≡ 0 }
         requires count_bound { self.old.count + 1 < self.old.terms.slots }
-        ensures { Ends L.Link.puts (record { view = view_of self.old; store = store.now; frame = frame.old; link = link.old }) result (record { view = view_of self.new; store = store.now; frame = frame.new; link = link.new }) }
+        ensures {
+            Ends L.Link (streamer_of self.old store.now frame.old link.old) result
+                (streamer_of self.new store.now frame.new link.new) }
     {
         self.state = State::Finishing;
         let put = self.hand_over(link, store, frame);
@@ -74,7 +77,9 @@ impl Writer {
         requires terms_in_bounds { frame_room self.old.terms ≤ length frame.old }
         requires filling_nonzero { 0 < self.old.filling }
         requires count_bound { self.old.count + 2 < self.old.terms.slots }
-        ensures { Empties L.Link.puts (record { view = view_of self.old; store = store.now; frame = frame.old; link = link.old }) result (record { view = view_of self.new; store = store.now; frame = frame.new; link = link.new }) }
+        ensures {
+            Empties L.Link (streamer_of self.old store.now frame.old link.old) result
+                (streamer_of self.new store.now frame.new link.new) }
     {
         let seqno = self.first + self.count as u64;
         match self.hand_over(link, store, frame) {
@@ -91,7 +96,9 @@ impl Writer {
         requires store_len { length store.now ≡ self.old.terms.store_len }
         requires terms_in_bounds { frame_room self.old.terms ≤ length frame.old }
         requires self_bound { self.old.count + closing_packets (view_of self.old) < self.old.terms.slots }
-        ensures { EndsIf (self.old.filling == 0) L.Link.puts (record { view = view_of self.old; store = store.now; frame = frame.old; link = link.old }) result (record { view = view_of self.new; store = store.now; frame = frame.new; link = link.new }) }
+        ensures {
+            EndsIf L.Link (self.old.filling == 0) (streamer_of self.old store.now frame.old link.old) result
+                (streamer_of self.new store.now frame.new link.new) }
     {
         if self.filling == 0 {
             return self.end(link, store, frame);
@@ -108,7 +115,13 @@ impl Writer {
         request: &[u8],
         answer: &[u8],
     ) -> Result<Finished, Refusal>
-        ensures { Finishes L.Link.puts (finish_refusal (view_of self.old) (lengths_of store.now frame.old request.now answer.now)) (record { view = view_of self.old; store = store.now; frame = frame.old; link = link.old }) result (record { view = view_of self.new; store = store.now; frame = frame.new; link = link.new }) }
+        ensures {
+            UnlessRefused
+                (finish_refusal (view_of self.old)
+                    (lengths_of store.now frame.old request.now answer.now))
+                (Finishes L.Link)
+                (streamer_of self.old store.now frame.old link.old) result
+                (streamer_of self.new store.now frame.new link.new) }
     {
         self.admit_finish(Lengths::of(store, frame, request, answer))?;
         Ok(self.end_block(link, store, frame))

@@ -3,9 +3,10 @@ ghost use Rattle.std.specs.Prelude.{◌≡◌, ◌<◌, true};
 ghost use Rattle.writer.specs.declared.admit.Call.TheVariants as call;
 ghost use Rattle.writer.specs.declared.state.kind.State.TheVariants.{Complete, Closed};
 ghost use Rattle.writer.specs.Admits.{refusal_for, lengths_of};
+ghost use Rattle.writer.specs.Calls.{listener_of, UnlessRefused};
 ghost use Rattle.writer.specs.States.{listens, ended};
 ghost use Rattle.writer.specs.Views.{view_of, with_state, without_first};
-ghost use Rattle.writer.specs.Heeding.{awaits, if_last, decided, answer_of, after, Hears, Heeds};
+ghost use Rattle.writer.specs.Heeding.{awaits, if_last, decided, answer_of, after, Heeds};
 
 use crate::admit::{Call, Lengths};
 use crate::cause::Cause;
@@ -17,7 +18,7 @@ use chain::link::Link;
 use held::table::HeldTable;
 use sending::ask::{AskError, ask};
 
-/// What an answer means, or that none came or the link was lost. Stays an enum: none of the five is an error, the call was acted on.
+/// What an answer means, or that none came or the link was lost. None of the five is an error: the call was acted on.
 #[derive(Clone, Copy, Debug, PartialEq, Eq)]
 pub enum Heeded {
     /// No answer has come yet.
@@ -32,7 +33,7 @@ pub enum Heeded {
     Broken(Cause),
 }
 
-/// What a state and what was heard come to. Stays an enum: what is decided is stated apart from what is done about it.
+/// What a state and what was heard come to. It is stated apart from what is done about it.
 #[derive(Clone, Copy)]
 pub enum Decision {
     Wait,
@@ -152,7 +153,9 @@ impl Writer {
     // Asks the link once, and does what its answer decides.
     fn ask_link<L: Link>(&mut self, link: &mut L, answer: &mut [u8]) -> Result<Heeded, Refusal>
         requires { listens self.old.state ≡ true }
-        ensures { Hears L.Link.nexts (view_of self.old) link.old answer.old result (view_of self.new) link.new answer.new }
+        ensures {
+            Heeds L.Link (listener_of self.old link.old answer.old) result
+                (listener_of self.new link.new answer.new) }
     {
         let heard = ask(link, answer);
         self.hear(heard)
@@ -167,7 +170,13 @@ impl Writer {
         request: &[u8],
         answer: &mut [u8],
     ) -> Result<Heeded, Refusal>
-        ensures { Heeds L.Link.nexts (refusal_for (view_of self.old) call.Heed (lengths_of store.now frame.now request.now answer.old)) (view_of self.old) link.old answer.old result (view_of self.new) link.new answer.new }
+        ensures {
+            UnlessRefused
+                (refusal_for (view_of self.old) call.Heed
+                    (lengths_of store.now frame.now request.now answer.old))
+                (Heeds L.Link)
+                (listener_of self.old link.old answer.old) result
+                (listener_of self.new link.new answer.new) }
     {
         self.admit(Call::Heed, Lengths::of(store, frame, request, answer))?;
         self.ask_link(link, answer)

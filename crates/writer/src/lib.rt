@@ -19,7 +19,6 @@ pub mod opening;
 pub mod recover;
 pub mod recovery;
 pub mod refusal;
-pub mod replay;
 pub mod rows;
 pub mod settle;
 pub mod state;

@@ -1,7 +1,7 @@
 //! A block opened: its pipeline set up, and its writer made.
 ghost use Rattle.std.specs.Prelude.{◌≡◌, ◌≤◌, false, length, replicate, Ok, Err, IfOk, is_ok};
 ghost use Rattle.std.specs.Result.{result_err};
-ghost use Rattle.pipeline.specs.Channels.{SameLoans};
+ghost use Rattle.pipeline.specs.Channels.{channel_over, channel_view, SameLoans};
 ghost use Rattle.writer.specs.declared.state.kind.State.TheVariants.{Closed};
 ghost use Rattle.writer.specs.declared.admit.Lengths.{Lengths};
 ghost use Rattle.writer.specs.Admits.{lengths_of};
@@ -64,7 +64,11 @@ impl Tables {
     fn into_writer(self, terms: Terms, token: Token, state: State, stamp: u64, time: u64) -> Writer
         requires fits { Fits terms }
         requires few { length self.nodes.rows.items ≤ 8 }
-        ensures { view_of result ≡ record { terms = terms; state = state; stamp = stamp; token = token; len = terms.initial_len; first = 0; count = 0; filling = 0; beaten = time; sizes = replicate 101 0; nodes = self.nodes.rows.items } }
+        ensures {
+            view_of result ≡ record {
+                terms = terms; state = state; stamp = stamp; token = token; len = terms.initial_len;
+                first = 0; count = 0; filling = 0; beaten = time;
+                sizes = replicate 101 0; nodes = self.nodes.rows.items } }
     {
         let Tables {
             held,
@@ -109,7 +113,9 @@ impl Tables {
     fn accepted(self, opening: Opening<'_>, terms: Terms, token: Token) -> Opened
         requires fits { Fits terms }
         requires few { length self.nodes.rows.items ≤ 8 }
-        ensures opened { (lengths : Lengths) → TermsFor opening.entry lengths terms → Fresh opening.entry lengths token self.nodes.rows.items (view_of result.writer) }
+        ensures opened {
+            (lengths : Lengths) → TermsFor opening.entry lengths terms
+                → Fresh opening.entry lengths token self.nodes.rows.items (view_of result.writer) }
         ensures well { result.outcome ≡ Ok tt }
     {
         Opened {
@@ -128,7 +134,9 @@ impl Tables {
     ) -> Result<(), ReplyError>
         requires { (1 ≤ length self.now.nodes.rows.items) × (length self.now.nodes.rows.items ≤ 8) }
         ensures same { SameLoans channel.old channel.new }
-        ensures acts { SetsUpFor L.Link.sets opening.entry terms.now token.now self.now.nodes.rows.items channel.old.link.now channel.old.request.now channel.new.request.now channel.old.answer.now channel.new.answer.now result channel.new.link.now }
+        ensures acts {
+            SetsUpFor L.Link opening.entry terms.now token.now self.now.nodes.rows.items
+                (channel_view channel.old) result (channel_view channel.new) }
     {
         let wanted = SetupRequest {
             header: ClientOperationHeader {
@@ -174,8 +182,16 @@ impl Writer {
         request: &mut [u8],
         answer: &mut [u8],
     ) -> Result<Opened, AllocError>
-        ensures opened { IfOk result (λ x. Opens L.Link.sets (open_refusal opening.entry (lengths_of store.now frame.now request.old answer.old)) opening.entry (lengths_of store.now frame.now request.old answer.old) link.entry.now request.old answer.old (result_err x.outcome) (view_of x.writer) link.exit.now request.new answer.new) }
-        ensures unmade { is_ok result ≡ false → (link.exit.now ≡ link.entry.now) × (request.new ≡ request.old) × (answer.new ≡ answer.old) }
+        ensures opened {
+            let lengths = lengths_of store.now frame.now request.old answer.old in
+            IfOk result (λ x.
+                Opens L.Link (open_refusal opening.entry lengths) opening.entry lengths
+                    (channel_over link.entry.now request.old answer.old)
+                    (result_err x.outcome) (view_of x.writer)
+                    (channel_over link.exit.now request.new answer.new)) }
+        ensures unmade {
+            is_ok result ≡ false → channel_over link.exit.now request.new answer.new
+                ≡ channel_over link.entry.now request.old answer.old }
     {
         let mut tables = Tables::new(heap)?;
         // Two matches and no `?`: a refused opening is no `Err` here, since the tables go into the closed writer that is answered with it.

@@ -1,20 +1,18 @@
 //! A broken pipeline rebuilt.
-ghost use Rattle.std.specs.Prelude.{◌≡◌, ℕ, ◌^◌, ◌<◌, ◌≤◌, List, length};
-ghost use Rattle.proto.specs.Messages.{octets_in};
-ghost use Rattle.pipeline.specs.Channels.{line_at, SameLoans};
+ghost use Rattle.std.specs.Prelude.{◌≡◌, ℕ, ◌^◌, ◌<◌, ◌≤◌, length};
+ghost use Rattle.pipeline.specs.Channels.{channel_over, channel_view, SameLoans};
 ghost use Rattle.writer.specs.declared.admit.Call.TheVariants as call;
 ghost use Rattle.writer.specs.Admits.{refusal_for, lengths_of};
-ghost use Rattle.writer.specs.Recovering.{restored, state_on, left_of, gone_of, beyond, Resumes, Builds, AsksStamp, Rebuilds, Survived, Recovers};
+ghost use Rattle.writer.specs.Calls.{site_of, UnlessRefused};
+ghost use Rattle.writer.specs.Recovering.{left_of, gone_of, beyond, Resumes, Builds, AsksStamp, Rebuilds, IfSurvived, Recovers};
 ghost use Rattle.writer.specs.Sizes.{frame_room};
-ghost use Rattle.writer.specs.States.{ended, IsBrokenState};
+ghost use Rattle.writer.specs.States.{IsBrokenState};
 ghost use Rattle.writer.specs.Views.{view_of, least_of};
 
 use crate::admit::{Call, Lengths};
-use crate::cause::Cause;
-use crate::recovery::{Counted, Replayed, SetUp, Stamped};
+use crate::recovery::{Counted, SetUp, Stamped};
 use crate::refusal::Refusal;
 use crate::state::Writer;
-use crate::state::kind::State;
 use chain::link::Link;
 use namenode::protocol::NamenodeProtocol;
 use pipeline::channel::Channel;
@@ -34,77 +32,33 @@ pub struct Recovered {
     pub put_lost: bool,
 }
 
-// The state that a replay leaves: whole, or broken by the packet that was lost.
-fn state_on(lost: Option<u64>, finished: bool) -> State
-    ensures { result ≡ state_on lost finished }
-{
-    match lost {
-        Some(seqno) => State::Broken {
-            cause: Cause::Put(seqno),
-            finished,
-        },
-        None => {
-            if finished {
-                State::Finishing
-            } else {
-                State::Streaming
-            }
-        }
-    }
-}
-
-// The parameters of the steps stay apart: link, namenode and buffers are lent as `&` or `&mut`, so that a step's signature says which of them it
-// leaves alone; what goes by value is the time, and what the steps before gave.
+// Each step answers by a `match`: after a closure that borrowed the writer, to close it, a proof knows nothing of the writer.
 impl Writer {
-    // Goes on with the chosen pipeline, row by row in the table, the new stamp and its token.
-    fn resume(&mut self, lost: Option<u64>, stamp: u64, token: Token, time: u64)
-        requires is_broken { IsBrokenState self.old.state }
-        ensures { view_of self.new ≡ restored lost stamp token self.old.chosen.rows.items time (view_of self.old) }
-    {
-        let finished = self.state.has_ended();
-        self.nodes.overwrite(self.chosen.as_slice());
-        self.stamp = stamp;
-        self.token = token;
-        self.beaten = time;
-        self.state = state_on(lost, finished);
-    }
-
     // On a pipeline that is set up: puts the held packets again, and tells the namenode.
     fn replay_on<L: Link, N: NamenodeProtocol>(
         &mut self,
         set_up: SetUp,
         token: Token,
         choice: Option<(usize, usize)>,
-        link: &mut L,
+        channel: &mut Channel<'_, L>,
         namenode: &mut N,
         store: &[u8],
         frame: &mut [u8],
         time: u64,
     ) -> Result<Recovered, Refusal>
         requires is_broken { IsBrokenState self.old.state }
-        requires set_up_value { set_up.least ≡ least_of (view_of self.old) }
+        requires least_value { set_up.least ≡ least_of (view_of self.old) }
         requires store_len { length store.now ≡ self.old.terms.store_len }
         requires terms_in_bounds { frame_room self.old.terms ≤ length frame.old }
-        ensures { (request answer : List ℕ) → Resumes L.Link.sets L.Link.puts L.Link.transfers N.NamenodeProtocol.lists N.NamenodeProtocol.stamps N.NamenodeProtocol.updates (view_of self.old) store.now time choice self.old.chosen.rows.items set_up.stamp token frame.old link.entry.now namenode.old result (view_of self.new) (record { link = link.exit.now; namenode = namenode.new; frame = frame.new; request = request; answer = answer }) }
+        ensures same { SameLoans channel.old channel.new }
+        ensures acts {
+            Resumes L.Link N.NamenodeProtocol set_up token choice self.old.chosen.rows.items time
+                (site_of self.old store.now frame.old (channel_view channel.old) namenode.old) result
+                (site_of self.new store.now frame.new (channel_view channel.new) namenode.new) }
     {
-        let replayed = set_up.replay(link, self, store, frame);
-        // A match: after a closure that borrowed the writer, to close it, a proof knows nothing of the writer.
-        match replayed.update(namenode, self.len, self.chosen.as_slice()) {
-            Ok(
-                Replayed {
-                    stamp,
-                    replayed,
-                    lost,
-                },
-            ) => {
-                self.resume(lost, stamp, token, time);
-                Ok(Recovered {
-                    choice,
-                    stamp,
-                    replayed,
-                    put_lost: lost.is_some(),
-                })
-            }
+        let replayed = set_up.replay(channel.link, self, store, frame);
+        match replayed.update(namenode, self, token, choice, time) {
+            Ok(recovered) => Ok(recovered),
             Err(refusal) => Err(self.close_by(refusal)),
         }
     }
@@ -127,20 +81,15 @@ impl Writer {
         requires terms_in_bounds { frame_room self.old.terms ≤ length frame.old }
         requires some_left { 1 ≤ length self.old.chosen.rows.items }
         ensures same { SameLoans channel.old channel.new }
-        ensures acts { (octets : List ℕ) → octets_in token.message ≡ octets → Builds L.Link.sets L.Link.puts L.Link.transfers N.NamenodeProtocol.lists N.NamenodeProtocol.stamps N.NamenodeProtocol.updates (view_of self.old) store.now time choice self.old.chosen.rows.items stamped.stamp octets frame.old (line_at channel.old) namenode.old result (view_of self.new) (record { link = channel.new.link.now; namenode = namenode.new; frame = frame.new; request = channel.new.request.now; answer = channel.new.answer.now }) }
+        ensures acts {
+            Builds L.Link N.NamenodeProtocol stamped token choice self.old.chosen.rows.items time
+                (site_of self.old store.now frame.old (channel_view channel.old) namenode.old) result
+                (site_of self.new store.now frame.new (channel_view channel.new) namenode.new) }
     {
-        // A match: after a closure that borrowed the writer, to close it, a proof knows nothing of the writer.
         match stamped.set_up(channel, self, &token) {
             Ok(set_up) => {
                 self.replay_on(
-                    set_up,
-                    token,
-                    choice,
-                    channel.link,
-                    namenode,
-                    store,
-                    frame,
-                    time,
+                    set_up, token, choice, channel, namenode, store, frame, time,
                 )
             }
             Err(refusal) => Err(self.close_by(refusal)),
@@ -162,10 +111,12 @@ impl Writer {
         requires terms_in_bounds { frame_room self.old.terms ≤ length frame.old }
         requires some_left { 1 ≤ length self.old.chosen.rows.items }
         ensures same { SameLoans channel.old channel.new }
-        ensures acts { AsksStamp L.Link.sets L.Link.puts L.Link.transfers N.NamenodeProtocol.lists N.NamenodeProtocol.stamps N.NamenodeProtocol.updates (view_of self.old) store.now time choice self.old.chosen.rows.items frame.old (line_at channel.old) namenode.old result (view_of self.new) (record { link = channel.new.link.now; namenode = namenode.new; frame = frame.new; request = channel.new.request.now; answer = channel.new.answer.now }) }
+        ensures acts {
+            AsksStamp L.Link N.NamenodeProtocol choice self.old.chosen.rows.items time
+                (site_of self.old store.now frame.old (channel_view channel.old) namenode.old) result
+                (site_of self.new store.now frame.new (channel_view channel.new) namenode.new) }
     {
         let counted = Counted::of(self);
-        // A match: after a closure that borrowed the writer, to close it, a proof knows nothing of the writer.
         match counted.stamp(namenode, self.len) {
             Ok((stamped, token)) => self.build(
                 stamped, token, choice, channel, namenode, store, frame, time,
@@ -186,13 +137,15 @@ impl Writer {
         requires is_broken { IsBrokenState self.old.state }
         requires store_len { length store.now ≡ self.old.terms.store_len }
         requires terms_in_bounds { frame_room self.old.terms ≤ length frame.old }
-        requires rows_value { self.old.chosen.rows.items ≡ left_of (view_of self.old) }
-        requires rows_value_2 { self.old.gone.rows.items ≡ gone_of (view_of self.old) }
+        requires left { self.old.chosen.rows.items ≡ left_of (view_of self.old) }
+        requires gone { self.old.gone.rows.items ≡ gone_of (view_of self.old) }
         requires some_left { 1 ≤ length self.old.chosen.rows.items }
         ensures same { SameLoans channel.old channel.new }
-        ensures acts { Rebuilds L.Link.sets L.Link.puts L.Link.transfers N.NamenodeProtocol.lists N.NamenodeProtocol.stamps N.NamenodeProtocol.updates (view_of self.old) store.now time (record { link = channel.old.link.now; namenode = namenode.old; frame = frame.old; request = channel.old.request.now; answer = channel.old.answer.now }) result (view_of self.new) (record { link = channel.new.link.now; namenode = namenode.new; frame = frame.new; request = channel.new.request.now; answer = channel.new.answer.now }) }
+        ensures acts {
+            Rebuilds L.Link N.NamenodeProtocol time
+                (site_of self.old store.now frame.old (channel_view channel.old) namenode.old) result
+                (site_of self.new store.now frame.new (channel_view channel.new) namenode.new) }
     {
-        // A match: after a closure that borrowed the writer, to close it, a proof knows nothing of the writer.
         match self.choose_pipeline(channel, namenode) {
             Ok(choice) => self.rebuild(choice, channel, namenode, store, frame, time),
             Err(why) => Err(self.close_by(Refusal::Replacement(why))),
@@ -211,9 +164,11 @@ impl Writer {
         requires store_len { length store.now ≡ self.old.terms.store_len }
         requires terms_in_bounds { frame_room self.old.terms ≤ length frame.old }
         ensures same { SameLoans channel.old channel.new }
-        ensures acts { Survived L.Link.sets L.Link.puts L.Link.transfers N.NamenodeProtocol.lists N.NamenodeProtocol.stamps N.NamenodeProtocol.updates (beyond (view_of self.old)) (view_of self.old) store.now time (record { link = channel.old.link.now; namenode = namenode.old; frame = frame.old; request = channel.old.request.now; answer = channel.old.answer.now }) result (view_of self.new) (record { link = channel.new.link.now; namenode = namenode.new; frame = frame.new; request = channel.new.request.now; answer = channel.new.answer.now }) }
+        ensures acts {
+            IfSurvived L.Link N.NamenodeProtocol (beyond (view_of self.old)) time
+                (site_of self.old store.now frame.old (channel_view channel.old) namenode.old) result
+                (site_of self.new store.now frame.new (channel_view channel.new) namenode.new) }
     {
-        // A match: after a closure that borrowed the writer, to close it, a proof knows nothing of the writer.
         match self.survive() {
             Ok(()) => self.choose_and_rebuild(channel, namenode, store, frame, time),
             Err(refusal) => Err(self.close_by(refusal)),
@@ -231,7 +186,16 @@ impl Writer {
         answer: &mut [u8],
         time: u64,
     ) -> Result<Recovered, Refusal>
-        ensures { Recovers L.Link.sets L.Link.puts L.Link.transfers N.NamenodeProtocol.lists N.NamenodeProtocol.stamps N.NamenodeProtocol.updates (refusal_for (view_of self.old) call.Recover (lengths_of store.now frame.old request.old answer.old)) (view_of self.old) store.now time (record { link = link.entry.now; namenode = namenode.old; frame = frame.old; request = request.old; answer = answer.old }) result (view_of self.new) (record { link = link.exit.now; namenode = namenode.new; frame = frame.new; request = request.new; answer = answer.new }) }
+        ensures {
+            UnlessRefused
+                (refusal_for (view_of self.old) call.Recover
+                    (lengths_of store.now frame.old request.old answer.old))
+                (Recovers L.Link N.NamenodeProtocol time)
+                (site_of self.old store.now frame.old
+                    (channel_over link.entry.now request.old answer.old) namenode.old)
+                result
+                (site_of self.new store.now frame.new
+                    (channel_over link.exit.now request.new answer.new) namenode.new) }
     {
         self.admit(Call::Recover, Lengths::of(store, frame, request, answer))?;
         let mut channel = Channel {

@@ -1,30 +1,23 @@
-//! The states that a recovery passes through. Each is given up for the next, so that none can be left out or done twice; they hold plain
-//! numbers, and the writer with its tables is lent at each step.
-ghost use Rattle.std.specs.Prelude.{◌≡◌, ◌+◌, ◌%◌, ◌<◌, ◌≤◌, length};
-ghost use Rattle.packet.specs.Frame.{octets_of, over};
-ghost use Rattle.held.specs.Slots.{sizes_of, size_at, slot_of, packet_of};
-ghost use Rattle.pipeline.specs.Channels.{SameLoans};
+//! The states that a recovery passes through. Each is given up for the next, so that none can be left out or done twice: their fields are known
+//! here and in the modules below alone. They hold plain numbers, and the writer with its tables is lent at each step.
+ghost use Rattle.std.specs.Prelude.{◌≡◌, ◌≤◌, length};
+ghost use Rattle.pipeline.specs.Channels.{channel_view, SameLoans};
 ghost use Rattle.writer.specs.Closing.{record_of};
-ghost use Rattle.writer.specs.Sizes.{capacity, frame_room};
-ghost use Rattle.writer.specs.Stages.{Stamps, SetsUpOn, ReplaysOn, UpdatesOn};
-ghost use Rattle.writer.specs.Views.{view_of, chunk_of, least_of};
+ghost use Rattle.writer.specs.Stages.{Stamps, SetsUpOn};
+ghost use Rattle.writer.specs.Views.{view_of, least_of};
 
-use crate::hand::bytes_at;
 use crate::refusal::Refusal;
 use crate::state::Writer;
 use chain::link::Link;
-use held::table::HeldTable;
 use namenode::protocol::NamenodeProtocol;
-use packet::frame::WritePacket;
-use packet::size::PacketSize;
 use pipeline::channel::Channel;
-use pipeline::nodes::NodeTable;
 use pipeline::set_up::SetupRequest;
 use proto::block::{ClientOperationHeader, ExtendedBlock};
-use proto::datanode::Datanode;
 use proto::token::Token;
 use request::stage::Stage;
-use sending::put::put_packet;
+
+pub mod replay;
+pub mod update;
 
 /// It is known how many bytes all datanodes have.
 // The least length goes from stage to stage, and a step asks that it is the writer's: a stage that said so would have to hold the writer.
@@ -40,16 +33,16 @@ pub struct Stamped {
 
 /// The pipeline is set up.
 pub struct SetUp {
-    pub(crate) least: u64,
-    pub(crate) stamp: u64,
+    least: u64,
+    stamp: u64,
 }
 
 /// The held packets were put again, up to one that may have been lost.
 pub struct Replayed {
-    pub(crate) stamp: u64,
-    pub(crate) replayed: usize,
-    // The packet whose frame was lost. An Option and no `Err`: such a loss ends the replay, and the namenode is told all the same.
-    pub(crate) lost: Option<u64>,
+    stamp: u64,
+    replayed: usize,
+    // The packet whose frame was lost. Such a loss ends the replay, and the namenode is told all the same.
+    lost: Option<u64>,
 }
 
 impl Writer {
@@ -82,7 +75,7 @@ impl Counted {
         namenode: &mut N,
         len: u64,
     ) -> Result<(Stamped, Token), Refusal>
-        ensures { Stamps N.NamenodeProtocol.stamps self.least len namenode.old result namenode.new }
+        ensures { Stamps N.NamenodeProtocol self.least len namenode.old result namenode.new }
     {
         let Counted { least } = self;
         let stamp = namenode
@@ -103,7 +96,9 @@ impl Stamped {
     ) -> Result<SetUp, Refusal>
         requires { 1 ≤ length writer.now.chosen.rows.items }
         ensures same { SameLoans channel.old channel.new }
-        ensures acts { SetsUpOn L.Link.sets (view_of writer.now) token.now writer.now.chosen.rows.items self.least self.stamp channel.old.link.now channel.old.request.now channel.new.request.now channel.old.answer.now channel.new.answer.now result channel.new.link.now }
+        ensures acts {
+            SetsUpOn L.Link (view_of writer.now) token.now writer.now.chosen.rows.items self
+                (channel_view channel.old) result (channel_view channel.new) }
     {
         let Stamped { least, stamp } = self;
         let wanted = SetupRequest {
@@ -122,31 +117,5 @@ impl Stamped {
             .set_up(writer.chosen.as_slice(), wanted)
             .map_err(Refusal::Recovery)?;
         Ok(SetUp { least, stamp })
-    }
-}
-
-impl Replayed {
-    /// Tells the namenode where the block now is.
-    pub(crate) fn update<N: NamenodeProtocol>(
-        self,
-        namenode: &mut N,
-        len: u64,
-        nodes: &[Datanode],
-    ) -> Result<Replayed, Refusal>
-        ensures { UpdatesOn N.NamenodeProtocol.updates len nodes.now self namenode.old result namenode.new }
-    {
-        let Replayed {
-            stamp,
-            replayed,
-            lost,
-        } = self;
-        namenode
-            .update_pipeline(stamp, len, nodes)
-            .map_err(|_| Refusal::Update)?;
-        Ok(Replayed {
-            stamp,
-            replayed,
-            lost,
-        })
     }
 }

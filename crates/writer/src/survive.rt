@@ -1,8 +1,9 @@
 //! The pipeline that a recovery goes on with: the datanodes that are left, or a list with a datanode added.
 ghost use Rattle.std.specs.Prelude.{◌≡◌, ◌≤◌, length, vec_len};
 ghost use Rattle.std.specs.Result.{result_err};
-ghost use Rattle.pipeline.specs.Channels.{line_at, SameLoans};
-ghost use Rattle.writer.specs.Recovering.{failed_on, left_of, gone_of, beyond, wants, Replaces, ChoosesIf, Ready};
+ghost use Rattle.pipeline.specs.Channels.{channel_view, SameLoans};
+ghost use Rattle.writer.specs.Recovering.{left_of, gone_of, beyond, wants, Replaces, ChoosesIf, Ready};
+ghost use Rattle.writer.specs.States.{failed_on};
 ghost use Rattle.writer.specs.Views.{view_of};
 
 use crate::cause::Cause;
@@ -65,10 +66,12 @@ impl Writer {
         channel: &mut Channel<'_, L>,
         namenode: &mut N,
     ) -> Result<Option<(usize, usize)>, NoDatanode>
-        requires rows_value { self.old.chosen.rows.items ≡ left_of (view_of self.old) }
-        requires rows_value_2 { self.old.gone.rows.items ≡ gone_of (view_of self.old) }
+        requires left { self.old.chosen.rows.items ≡ left_of (view_of self.old) }
+        requires gone { self.old.gone.rows.items ≡ gone_of (view_of self.old) }
         requires some_left { 1 ≤ length self.old.chosen.rows.items }
-        ensures acts { Replaces L.Link.transfers N.NamenodeProtocol.lists (view_of self.old) (line_at channel.old) namenode.old result self.new.chosen.rows.items (line_at channel.new) namenode.new }
+        ensures acts {
+            Replaces L.Link N.NamenodeProtocol (view_of self.old) (channel_view channel.old) namenode.old
+                result self.new.chosen.rows.items (channel_view channel.new) namenode.new }
         ensures same { SameLoans channel.old channel.new }
         ensures view { view_of self.new ≡ view_of self.old }
         ensures some { 1 ≤ length self.new.chosen.rows.items }
@@ -104,10 +107,13 @@ impl Writer {
         channel: &mut Channel<'_, L>,
         namenode: &mut N,
     ) -> Result<Option<(usize, usize)>, NoDatanode>
-        requires rows_value { self.old.chosen.rows.items ≡ left_of (view_of self.old) }
-        requires rows_value_2 { self.old.gone.rows.items ≡ gone_of (view_of self.old) }
+        requires left { self.old.chosen.rows.items ≡ left_of (view_of self.old) }
+        requires gone { self.old.gone.rows.items ≡ gone_of (view_of self.old) }
         requires some_left { 1 ≤ length self.old.chosen.rows.items }
-        ensures acts { ChoosesIf L.Link.transfers N.NamenodeProtocol.lists (wants (view_of self.old)) (view_of self.old) (line_at channel.old) namenode.old result self.new.chosen.rows.items (line_at channel.new) namenode.new }
+        ensures acts {
+            ChoosesIf L.Link N.NamenodeProtocol (wants (view_of self.old)) (view_of self.old)
+                (channel_view channel.old) namenode.old
+                result self.new.chosen.rows.items (channel_view channel.new) namenode.new }
         ensures same { SameLoans channel.old channel.new }
         ensures view { view_of self.new ≡ view_of self.old }
         ensures some { 1 ≤ length self.new.chosen.rows.items }

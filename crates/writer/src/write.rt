@@ -3,6 +3,7 @@ ghost use Rattle.std.specs.Prelude.{◌≡◌, ◌≤◌, length};
 ghost use Rattle.writer.specs.declared.admit.Call.TheVariants as call;
 ghost use Rattle.writer.specs.declared.state.kind.State.TheVariants.{Streaming};
 ghost use Rattle.writer.specs.Admits.{refusal_for, lengths_of};
+ghost use Rattle.writer.specs.Calls.{streamer_of, UnlessRefused};
 ghost use Rattle.writer.specs.Sizes.{frame_room};
 ghost use Rattle.writer.specs.Views.{view_of};
 ghost use Rattle.writer.specs.Writing.{Turns, Writes, Wrote};
@@ -12,9 +13,9 @@ use crate::refusal::Refusal;
 use crate::state::Writer;
 use chain::link::{Link, LinkLost};
 
-/// One turn of a write. Stays an enum: a Result of an Option of a count would not say which of these came.
+/// What a turn of a write came to.
 #[derive(Clone, Copy)]
-pub enum Step {
+pub enum Turned {
     /// Nothing can be done.
     Stopped,
     /// So many bytes were taken.
@@ -42,24 +43,26 @@ impl Writer {
         store: &mut [u8],
         frame: &mut [u8],
         bytes: &[u8],
-    ) -> Step
+    ) -> Turned
         requires state_value { self.old.state ≡ Streaming }
         requires store_len { length store.old ≡ self.old.terms.store_len }
         requires terms_in_bounds { frame_room self.old.terms ≤ length frame.old }
-        ensures { Turns L.Link.puts (record { view = view_of self.old; store = store.old; frame = frame.old; link = link.old }) bytes.now result (record { view = view_of self.new; store = store.new; frame = frame.new; link = link.new }) }
+        ensures {
+            Turns L.Link bytes.now (streamer_of self.old store.old frame.old link.old) result
+                (streamer_of self.new store.new frame.new link.new) }
     {
         if self.filling < self.packet_capacity() {
             if self.room_for(bytes.len()) == 0 {
-                return Step::Stopped;
+                return Turned::Stopped;
             }
-            return Step::Poured(self.take_in(store, bytes));
+            return Turned::Poured(self.take_in(store, bytes));
         }
         if self.count + 1 >= self.terms.slots {
-            return Step::Stopped;
+            return Turned::Stopped;
         }
         match self.hand_over(link, store, frame) {
-            Ok(()) => Step::Handed,
-            Err(LinkLost) => Step::Lost,
+            Ok(()) => Turned::Handed,
+            Err(LinkLost) => Turned::Lost,
         }
     }
 
@@ -74,21 +77,23 @@ impl Writer {
         requires state_value { self.old.state ≡ Streaming }
         requires store_len { length store.old ≡ self.old.terms.store_len }
         requires terms_in_bounds { frame_room self.old.terms ≤ length frame.old }
-        ensures { Writes L.Link.puts (record { view = view_of self.old; store = store.old; frame = frame.old; link = link.old }) bytes.now result.taken result.put_lost (record { view = view_of self.new; store = store.new; frame = frame.new; link = link.new }) }
+        ensures {
+            Writes L.Link (streamer_of self.old store.old frame.old link.old) bytes.now
+                result.taken result.put_lost (streamer_of self.new store.new frame.new link.new) }
     {
         // A place that runs along: how many bytes a turn takes is known after it alone, and their number is what the write answers.
         let mut taken = 0;
         'turns: loop {
             match self.turn(link, store, frame, &bytes[taken..]) {
-                Step::Stopped => {
+                Turned::Stopped => {
                     return Written {
                         taken,
                         put_lost: false,
                     };
                 }
-                Step::Poured(n) => taken += n,
-                Step::Handed => {}
-                Step::Lost => {
+                Turned::Poured(n) => taken += n,
+                Turned::Handed => {}
+                Turned::Lost => {
                     return Written {
                         taken,
                         put_lost: true,
@@ -108,7 +113,13 @@ impl Writer {
         answer: &[u8],
         bytes: &[u8],
     ) -> Result<Written, Refusal>
-        ensures { Wrote L.Link.puts (refusal_for (view_of self.old) call.Write (lengths_of store.old frame.old request.now answer.now)) (record { view = view_of self.old; store = store.old; frame = frame.old; link = link.old }) bytes.now result (record { view = view_of self.new; store = store.new; frame = frame.new; link = link.new }) }
+        ensures {
+            UnlessRefused
+                (refusal_for (view_of self.old) call.Write
+                    (lengths_of store.old frame.old request.now answer.now))
+                (Wrote L.Link bytes.now)
+                (streamer_of self.old store.old frame.old link.old) result
+                (streamer_of self.new store.new frame.new link.new) }
     {
         self.admit(Call::Write, Lengths::of(store, frame, request, answer))?;
         Ok(self.pour(link, store, frame, bytes))

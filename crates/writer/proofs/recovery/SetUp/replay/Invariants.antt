@@ -11,6 +11,6 @@ invariant-packets g l =
     (l.i ≤ l.writer.count)
     × (l.offset ≡ l.least + total l.writer.terms.slots (sizes_of (vec_items l.writer.held.records)) l.i l.writer.first)
     × (frame_room l.writer.terms ≤ length l.frame)
-    × Onward g.L.Link.puts (held_in (view_of l.writer) l.store l.least) l.initial.frame l.initial.link l.i
+    × Onward g.L.Link (held_in (view_of l.writer) l.store l.least) l.initial.frame l.initial.link l.i
     (packets (chunk_of (view_of l.writer)) (capacity l.writer.terms) l.writer.terms.slots (sizes_of (vec_items l.writer.held.records)) l.store (ended l.writer.state) (l.writer.count - l.i) (l.writer.first + l.i) l.offset)
     l.frame l.link

@@ -8,7 +8,7 @@ use Rattle.writer.proofs.state.Writer.ask_link.Goals as goal
 pub returns : goal.returns
 returns g c =
     let v = view_of c.args.self.now in
-    let x = comes g.L.Link.nexts c.args.link.now c.args.answer.now c.ask-heard.new.answer c.ask-heard.new.link c.ask-heard.result c.ask-heard.ensures in
+    let x = comes g.L.Link c.args.link.now c.args.answer.now c.ask-heard.new.answer c.ask-heard.new.link c.ask-heard.result c.ask-heard.ensures in
     record {
       came = x.came;
       acted = x.acted;

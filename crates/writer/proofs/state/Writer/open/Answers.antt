@@ -17,7 +17,7 @@ returns-in-Ok-set_up-clause-opened g c =
     let s = subst (λ z. Settled o l nodes z) is (subst (λ z. Settled o z nodes c.settle.result) c.of.ensures c.settle.ensures) in
     let granted : c.set_up.result ≡ Ok tt = grind arith in
     let why : result_err c.accepted.result.outcome ≡ None = ap result_err c.accepted.ensures.well in
-    let z = opened g.L.Link.sets o l nodes c.in-Ok.settled.0 c.in-Ok.settled.1 _ _ _ _ _ c.set_up.result _ (view_of c.accepted.result.writer) _ s c.set_up.ensures.acts
+    let z = opened g.L.Link o l nodes c.in-Ok.settled.0 c.in-Ok.settled.1 _ c.set_up.result _ (view_of c.accepted.result.writer) _ s c.set_up.ensures.acts
     (subst (λ z. Started z o l c.in-Ok.settled.1 nodes (result_err c.accepted.result.outcome) (view_of c.accepted.result.writer)) (sym granted) (why, c.accepted.ensures.opened l s.terms)) in
     search rules
 
@@ -31,6 +31,6 @@ returns-in-Err-set_up-clause-opened g c =
     let s = subst (λ z. Settled o l nodes z) is (subst (λ z. Settled o z nodes c.settle.result) c.of.ensures c.settle.ensures) in
     let lost : c.set_up.result ≡ Err c.in-Err-set_up.why = grind arith in
     let why : result_err w.outcome ≡ Some (refusal.SetUp c.in-Err-set_up.why) = ap result_err c.refused-in-Err-set_up.ensures.why in
-    let z = opened g.L.Link.sets o l nodes c.in-Ok.settled.0 c.in-Ok.settled.1 _ _ _ _ _ c.set_up.result _ (view_of w.writer) _ s c.set_up.ensures.acts
+    let z = opened g.L.Link o l nodes c.in-Ok.settled.0 c.in-Ok.settled.1 _ c.set_up.result _ (view_of w.writer) _ s c.set_up.ensures.acts
     (subst (λ z. Started z o l c.in-Ok.settled.1 nodes (result_err w.outcome) (view_of w.writer)) (sym lost) (why, c.refused-in-Err-set_up.ensures.closed)) in
     search rules

@@ -1,7 +1,7 @@
 use Rattle.std.proofs.Common.{◌≡◌, ◌+◌, ◌-◌, ◌*◌, ◌≤◌, length}
 use Rattle.writer.specs.declared.state.kind.State.TheVariants.{Streaming}
+use Rattle.writer.specs.Calls.{streamer_of}
 use Rattle.writer.specs.Sizes.{frame_room}
-use Rattle.writer.specs.Views.{view_of}
 use Rattle.writer.proofs.Turns.{Continues}
 use Rattle.writer.proofs.state.Writer.pour.Given as goal
 
@@ -11,7 +11,7 @@ invariant-turns g l =
     × (l.self.state ≡ Streaming)
     × (length l.store ≡ l.self.terms.store_len)
     × (frame_room l.self.terms ≤ length l.frame)
-    × Continues g.L.Link.puts (record { view = view_of l.initial.self; store = l.initial.store; frame = l.initial.frame; link = l.initial.link }) l.bytes l.taken (record { view = view_of l.self; store = l.store; frame = l.frame; link = l.link })
+    × Continues g.L.Link (streamer_of l.initial.self l.initial.store l.initial.frame l.initial.link) l.bytes l.taken (streamer_of l.self l.store l.frame l.link)
 
 abbrev pub decreases-turns : goal.decreases-turns
 decreases-turns g l = 2 * (length l.bytes - l.taken) + l.self.filling

@@ -18,7 +18,7 @@ choose_and_rebuild-requires g c =
       is_broken = subst IsBrokenState (sym state) c.requires.is_broken;
       store_len = c.requires.store_len ∙ ap (λ (t : Terms). t.store_len) (sym terms);
       terms_in_bounds = omega (arith, c.requires.terms_in_bounds, ap frame_room terms);
-      rows_value = p.0 ∙ ap left_of (sym e);
-      rows_value_2 = p.1 ∙ ap gone_of (sym e);
+      left = p.0 ∙ ap left_of (sym e);
+      gone = p.1 ∙ ap gone_of (sym e);
       some_left = p.2;
     }

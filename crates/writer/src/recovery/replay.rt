@@ -1,10 +1,10 @@
 //! Held packets put again.
 ghost use Rattle.std.specs.Prelude.{◌≡◌, ◌+◌, ◌-◌, ◌<◌, ◌≤◌, length, is_ok};
 ghost use Rattle.packet.specs.Frame.{octets_of, over};
-ghost use Rattle.held.specs.Slots.{sizes_of, size_at, slot_of, packet_of, last_at};
+ghost use Rattle.held.specs.Slots.{sizes_of, size_at, last_at};
 ghost use Rattle.writer.specs.Sizes.{capacity, frame_room};
 ghost use Rattle.writer.specs.Stages.{ReplaysOn};
-ghost use Rattle.writer.specs.Views.{view_of, chunk_of, least_of};
+ghost use Rattle.writer.specs.Views.{view_of, held_packet, least_of};
 
 use crate::hand::bytes_at;
 use crate::recovery::{Replayed, SetUp};
@@ -38,8 +38,10 @@ impl Writer {
     ) -> Result<(), LinkLost>
         requires store_len { length store.now ≡ self.now.terms.store_len }
         requires terms_in_bounds { frame_room self.now.terms ≤ length frame.old }
-        ensures put { L.Link.puts link.old (octets_of (packet_of (chunk_of (view_of self.now)) offset seqno last (slot_of (capacity self.now.terms) self.now.terms.slots store.now seqno (size_at self.now.terms.slots (sizes_of self.now.held.records.items) seqno)))) (is_ok result) link.new }
-        ensures frame { frame.new ≡ over (packet_of (chunk_of (view_of self.now)) offset seqno last (slot_of (capacity self.now.terms) self.now.terms.slots store.now seqno (size_at self.now.terms.slots (sizes_of self.now.held.records.items) seqno))) frame.old }
+        ensures put {
+            L.Link.puts link.old (octets_of (held_packet (view_of self.now) store.now offset seqno last))
+                (is_ok result) link.new }
+        ensures frame { frame.new ≡ over (held_packet (view_of self.now) store.now offset seqno last) frame.old }
     {
         let packet = WritePacket {
             offset,
@@ -72,7 +74,7 @@ impl SetUp {
         requires least_value { self.least ≡ least_of (view_of writer.now) }
         requires store_len { length store.now ≡ writer.now.terms.store_len }
         requires terms_in_bounds { frame_room writer.now.terms ≤ length frame.old }
-        ensures { ReplaysOn L.Link.puts (view_of writer.now) store.now self.least self.stamp frame.old link.old result frame.new link.new }
+        ensures { ReplaysOn L.Link (view_of writer.now) store.now self frame.old link.old result frame.new link.new }
     {
         let SetUp { least, stamp } = self;
         let finished = writer.state.has_ended();
