@@ -3,6 +3,7 @@ use Rattle.std.proofs.Common.{◌≡◌, ℕ, ◌+◌, ◌-◌, ◌≤◌, Bool,
 use Rattle.packet.specs.Frame.{Packet, octets_of}
 use Rattle.held.proofs.Packets.{slot_long}
 use Rattle.held.proofs.Apart.{handed_packets, handed_whole}
+use Rattle.chain.specs.declared.link.Link as Link
 use Rattle.chain.specs.Meaning.{Seen, Puts}
 use Rattle.writer.specs.declared.cause.Cause.TheVariants.{Put}
 use Rattle.writer.specs.declared.state.kind.State.{State}
@@ -11,9 +12,11 @@ use Rattle.writer.specs.Sizes.{capacity}
 use Rattle.writer.specs.States.{ended, last_ones, listens}
 use Rattle.writer.specs.Views.{View, chunk_of, next_of, waiting_of, with_state, with_held, held_in, filling_in, outgoing, broken_by}
 use Rattle.writer.proofs.Rooms.{room_within}
-use Rattle.writer.specs.Writing.{Place, handed_over}
+use Rattle.writer.specs.Calls.{Streamer}
+use Rattle.writer.specs.Writing.{handed_over, PutsOutgoing}
 use Rattle.runs.specs.History.{History}
 use Rattle.runs.proofs.Invariant.{Fit, Holds, Flows, Sofar, Confirmed, kept_long}
+use Rattle.runs.proofs.Means.{MeansChain}
 use Rattle.runs.proofs.Taken.{carried, pending_more}
 use Rattle.runs.proofs.Keeps.{Keeps}
 use Rattle.runs.proofs.States.{so_far, is_open, flowing, flows_as, confirmed_as}
@@ -39,7 +42,7 @@ module _ (h : History) (v : View) (store : List ℕ) (x : Seen) (f : Fit v (leng
 
     -- where the frame is taken, the packet is pending behind those that were
     pub pending_held : (s : State) (y : Seen) → Puts (octets_of (outgoing (with_state s v) store)) true x y
-        → y ≡ record { kept = x.kept; pending = held_in (with_state s (with_held v)) store (length x.kept); nodes = x.nodes; chunk = x.chunk }
+        → y ≡ record x { pending = held_in (with_state s (with_held v)) store (length x.kept) }
     pending_held s y puts =
         let small : v.filling ≤ capacity v.terms = omega (arith, f.fits, room_within v.terms (next_of v)) in
         let long = slot_long (capacity v.terms) v.terms.slots store (next_of v) v.filling (omega (arith, f.slots)) small f.store in
@@ -52,7 +55,7 @@ module _ (h : History) (v : View) (store : List ℕ) (x : Seen) (f : Fit v (leng
         let offset : v.len - v.filling ≡ length x.kept + waiting_of v = omega (arith, kept_long h v store x f holds) in
         let held = handed_packets (chunk_of v) (capacity v.terms) v.terms.slots v.sizes store v.count v.first v.filling f.room f.table (ended s) (length x.kept) in
         let more : x.pending ++ q ∷ [] ≡ held_in (with_state s (with_held v)) store (length x.kept) = rw (before, offset) (sym held) in
-        is ∙ ap (λ (l : List Packet). record { kept = x.kept; pending = l; nodes = x.nodes; chunk = x.chunk }) more
+        is ∙ ap (λ (l : List Packet). record x { pending = l }) more
 
     -- the packet is handed over in a state in which the pipeline is whole, and taken or lost
     pub handed_keeps : (s : State) (y : Seen) (sent : Bool) → listens s ≡ true → Puts (octets_of (outgoing (with_state s v) store)) sent x y
@@ -72,9 +75,9 @@ module _ (h : History) (v : View) (store : List ℕ) (x : Seen) (f : Fit v (leng
       opens = λ o. is_open v.state (ap listens streams);
     }
 
-module _ {C : Type 0} (seen : C → Seen) (puts : C → List ℕ → Bool → C → Type 0) (putting : (a b : C) (frame : List ℕ) (taken : Bool) → puts a frame taken b → Puts frame taken (seen a) (seen b)) where
+module _ {C : Type 0} (acts : Link.Ghosts C) (seen : C → Seen) (means : MeansChain acts seen) where
   -- a packet of a block that has not ended
-  pub hands_keep : (h : History) (p : Place C) (c : C) (sent : Bool) → p.view.state ≡ Streaming → Fit p.view (length p.store) → Holds h p.view p.store (seen p.link)
-      → puts p.link (octets_of (outgoing p.view p.store)) sent c → Keeps h p.view (handed_over p sent c).view p.store (seen c)
+  pub hands_keep : (h : History) (p : Streamer C) (c : C) (sent : Bool) → p.view.state ≡ Streaming → Fit p.view (length p.store) → Holds h p.view p.store (seen p.link)
+      → PutsOutgoing acts p sent c → Keeps h p.view (handed_over p sent c).view p.store (seen c)
   hands_keep h p c sent streams f holds act =
-      handed_keeps h p.view p.store (seen p.link) f holds streams p.view.state (seen c) sent (ap listens streams) (putting p.link c _ sent act)
+      handed_keeps h p.view p.store (seen p.link) f holds streams p.view.state (seen c) sent (ap listens streams) (means.putting p.link c _ sent act)

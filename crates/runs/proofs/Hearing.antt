@@ -8,12 +8,13 @@ use Rattle.ack.specs.Acks.{AckFields, ack_of}
 use Rattle.ack.specs.declared.ack.Verdict.TheVariants.{HeartBeat, UnknownSeqno, Packet}
 use Rattle.ack.specs.Verdicts.{judged, number_if, verdict_on, passes}
 use Rattle.ack.specs.Failures.{failed_nodes}
+use Rattle.chain.specs.declared.link.Link as Link
 use Rattle.chain.specs.Acts.{Came, nothing, lost, answer}
 use Rattle.chain.specs.Meaning.{Seen, Passes, Nexts}
 use Rattle.sending.specs.Asking.{heard_in, heard_of}
 use Rattle.writer.specs.declared.admit.Call.TheVariants as call
 use Rattle.writer.specs.declared.admit.Lengths.{Lengths}
-use Rattle.writer.specs.declared.cause.Cause.TheVariants.{Link, Replies, Decoding}
+use Rattle.writer.specs.declared.cause.Cause.TheVariants as cause
 use Rattle.writer.specs.declared.heed.Decision.{Decision}
 use Rattle.writer.specs.declared.heed.Decision.TheVariants as decision
 use Rattle.writer.specs.declared.heed.Heeded.{Heeded}
@@ -21,13 +22,16 @@ use Rattle.writer.specs.declared.refusal.Refusal.{Refusal}
 use Rattle.writer.specs.declared.refusal.Refusal.TheVariants as refusal
 use Rattle.writer.specs.declared.state.kind.State.{State}
 use Rattle.writer.specs.declared.state.kind.State.TheVariants.{Streaming, Finishing, Broken, Complete, Closed}
-use Rattle.writer.specs.Admits.{refusal_for, by_room, by_state, or_else}
+use Rattle.writer.specs.Admits.{refusal_for, by_room, by_state}
+use Rattle.writer.specs.Calls.{Listener}
 use Rattle.writer.specs.Heeding.{awaits, on_packet, on_verdict, on_heard, answer_of, after, Heeds}
+use Rattle.writer.specs.Refusals.{or_else}
 use Rattle.writer.specs.States.{ended, listens}
 use Rattle.writer.specs.Views.{View}
 use Rattle.runs.specs.History.{History, numbers, heard}
 use Rattle.runs.proofs.Heeds.{heard_none, same, other, first_small, confirm_keeps, complete_keeps}
 use Rattle.runs.proofs.Invariant.{Fit, Holds}
+use Rattle.runs.proofs.Means.{MeansChain}
 use Rattle.runs.proofs.Keeps.{Keeps}
 use Rattle.runs.proofs.States.{breaks, closes, stays}
 
@@ -69,26 +73,26 @@ module _ (h : History) (v : View) (store : List ℕ) (x y : Seen) (whole : liste
       let failed = failed_nodes a.codes in
       cond_both (eqb failed.count 0) _ _ (λ z. Follows (on_verdict v z))
       (λ e. if_number a.seqno (subst (λ (n : Option ℕ). Passes n x.pending x y) (cond-true (eqb failed.count 0) _ _ e) d))
-      (λ e. quiet (decision.Break (Replies failed)) (subst (λ (n : Option ℕ). Passes n x.pending x y) (cond-false (eqb failed.count 0) _ _ e) d) refl (breaks h v (Replies failed) store x whole holds))
+      (λ e. quiet (decision.Break (cause.Replies failed)) (subst (λ (n : Option ℕ). Passes n x.pending x y) (cond-false (eqb failed.count 0) _ _ e) d) refl (breaks h v (cause.Replies failed) store x whole holds))
 
   if_read : (r : Result AckFields DecodeError) → Passes (number_if r) x.pending x y → Follows (on_heard v (heard_of (and_then r (λ a. Ok (judged a)))))
   if_read (Ok a) d = if_acked a d
-  if_read (Err e) d = quiet (decision.Break (Decoding e)) d refl (breaks h v (Decoding e) store x whole holds)
+  if_read (Err e) d = quiet (decision.Break (cause.Decoding e)) d refl (breaks h v (cause.Decoding e) store x whole holds)
 
   if_came : (came : Came) → Nexts came x y → Follows (on_heard v (heard_in came))
   unfolding verdict_on passes
   if_came nothing d = quiet decision.Wait d refl (stays h v store x holds)
-  if_came lost d = quiet (decision.Break Link) d refl (breaks h v Link store x whole holds)
+  if_came lost d = quiet (decision.Break cause.Link) d refl (breaks h v cause.Link store x whole holds)
   if_came (answer message) d = if_read (ack_of message) d
 
-module _ {C : Type 0} (nexts : C → Came → C → Type 0) (seen : C → Seen) (answering : (a b : C) (came : Came) → nexts a came b → Nexts came (seen a) (seen b)) where
-  pub heard_keeps : (h : History) (o : Option Refusal) (v w : View) (store buffer buffer' : List ℕ) (a b : C) (r : Result Heeded Refusal)
-      → (o ≡ None → listens v.state ≡ true) → Fit v (length store) → Holds h v store (seen a)
-      → Heeds nexts o v a buffer r w b buffer' → Keeps (heard h (seen a).pending (seen b).pending r) v w store (seen b)
-  heard_keeps h (Some e) v w store buffer buffer' a b r whole fit holds d = rw (d.0, d.1, d.2, heard_none h (seen a).pending (Err e) refl) (stays h v store (seen a) holds)
-  heard_keeps h None v w store buffer buffer' a b r whole fit holds d =
-      let k = if_came h v store (seen a) (seen b) (whole refl) fit holds d.came (answering a b d.came d.acted) in
-      let is = cond-true (listens v.state) (on_heard v (heard_in d.came)) decision.Wait (whole refl) in
+module _ {C : Type 0} (acts : Link.Ghosts C) (seen : C → Seen) (means : MeansChain acts seen) where
+  pub heard_keeps : (h : History) (store : List ℕ) (s t : Listener C) (r : Result Heeded Refusal) → listens s.view.state ≡ true
+      → Fit s.view (length store) → Holds h s.view store (seen s.link) → Heeds acts s r t
+      → Keeps (heard h (seen s.link).pending (seen t.link).pending r) s.view t.view store (seen t.link)
+  heard_keeps h store s t r whole fit holds d =
+      let v = s.view in
+      let k = if_came h v store (seen s.link) (seen t.link) whole fit holds d.came (means.answering s.link t.link d.came d.acted) in
+      let is = cond-true (listens v.state) (on_heard v (heard_in d.came)) decision.Wait whole in
       rw (d.result, d.writer, is) k
 
 -- which states listen

@@ -1,3 +1,4 @@
+pub mod Means
 pub mod Invariant
 pub mod Taken
 pub mod Keeps

@@ -8,8 +8,10 @@ use Rattle.proto.specs.declared.token.Token.{Token}
 use Rattle.request.specs.declared.setup.Setup.{Setup}
 use Rattle.pipeline.specs.declared.set_up.SetupRequest.{SetupRequest}
 use Rattle.held.specs.Slots.{slot_of}
-use Rattle.chain.specs.Meaning.{Seen, SetsUp, rebuilt}
+use Rattle.chain.specs.declared.link.Link as Link
+use Rattle.chain.specs.Meaning.{Seen, rebuilt}
 use Rattle.namenode.specs.Entries.{Entry}
+use Rattle.pipeline.specs.Channels.{ChannelView, channel_over}
 use Rattle.pipeline.specs.Replies.{Reply, reply_of}
 use Rattle.pipeline.specs.SetUps
 use Rattle.writer.specs.declared.admit.Lengths.{Lengths}
@@ -23,6 +25,7 @@ use Rattle.writer.specs.Views.{View, view_of, next_of, filling_in}
 use Rattle.runs.specs.Begins.{Begins}
 use Rattle.runs.specs.History.{begun}
 use Rattle.runs.specs.Runs.{Point}
+use Rattle.runs.proofs.Means.{MeansChain}
 use Rattle.runs.proofs.Heeds.{held_none}
 use Rattle.runs.proofs.States.{flows_as}
 use Rattle.runs.proofs.Invariant.{Holds, Entered}
@@ -31,19 +34,18 @@ ok_lost : {A E : Type 0} (x : A) (e : E) → ◌≡◌ {A = Result A E} (Ok x) (
 ok_lost x e is = let z : ◌≡◌ {A = ℕ} 0 1 = cc in omega arith
 
 -- where a set up was granted, a response came, and the pipeline is anew
-module _ {C : Type 0} (sets : C → Datanode → List ℕ → ℕ → Option (List ℕ) → C → Type 0) (seen : C → Seen)
-    (setting : (a b : C) (node : Datanode) (request : List ℕ) (least : ℕ) (came : Option (List ℕ)) → sets a node request least came b → SetsUp request least came (seen a) (seen b)) where
+module _ {C : Type 0} (acts : Link.Ghosts C) (seen : C → Seen) (means : MeansChain acts seen) where
   pub record Anew (least : ℕ) (a b : C) : Type 0 where
     pub setup : Setup
     pub is : seen b ≡ rebuilt setup least (seen a)
 
-  answered_anew : (a b : C) (node : Datanode) (request : List ℕ) (least : ℕ) (came : Option (List ℕ)) (u : ⊤) → Ok u ≡ reply_of came → sets a node request least came b → Anew least a b
+  answered_anew : (a b : C) (node : Datanode) (request : List ℕ) (least : ℕ) (came : Option (List ℕ)) (u : ⊤) → Ok u ≡ reply_of came → acts.sets a node request least came b → Anew least a b
   answered_anew a b node request least None u e act = absurd (ok_lost _ _ e)
-  answered_anew a b node request least (Some response) u e act = let d = setting a b node request least (Some response) act in record { setup = d.setup; is = d.is }
+  answered_anew a b node request least (Some response) u e act = let d = means.setting a b node request least (Some response) act in record { setup = d.setup; is = d.is }
 
-  pub set_up_anew : (s : SetupRequest) (nodes : List Datanode) (a b : C) (request request' answer answer' : List ℕ) (u : ⊤)
-      → SetUps.SetsUp sets s nodes a request request' answer answer' (Ok u) b → Anew s.min_bytes a b
-  set_up_anew s nodes a b request request' answer answer' u d = answered_anew a b d.message.first.now (SetUps.octets_of d.message) s.min_bytes d.reply.came u d.reply.is d.reply.acted
+  pub set_up_anew : (w : SetupRequest) (nodes : List Datanode) (s t : ChannelView C) (u : ⊤)
+      → SetUps.SetsUp acts w nodes s (Ok u) t → Anew w.min_bytes s.link t.link
+  set_up_anew w nodes s t u d = answered_anew s.link t.link d.message.first.now (SetUps.octets_of d.message) w.min_bytes d.reply.came u d.reply.is d.reply.acted
 
 -- a writer that has taken nothing yet
 fresh_holds : (o : Opening) (l : Lengths) (shown : Token) (chain nodes : List Datanode) (v : View) (store : List ℕ) (x y : Seen) (setup : Setup) → l.store ≡ length store
@@ -62,30 +64,29 @@ fresh_holds o l shown chain nodes v store x y setup long f initial is =
       confirmed = rw (f.state, f.first) (refl, refl);
     }
 
-module _ {C N : Type 0} (sets : C → Datanode → List ℕ → ℕ → Option (List ℕ) → C → Type 0) (seen : C → Seen) (entry : N → Entry)
-    (setting : (a b : C) (node : Datanode) (request : List ℕ) (least : ℕ) (came : Option (List ℕ)) → sets a node request least came b → SetsUp request least came (seen a) (seen b)) where
-  module _ (o : Opening) (l : Lengths) (a b : C) (nodes : List Datanode) (v : View) (store : List ℕ) (long : l.store ≡ length store) (initial : length (seen a).kept ≡ o.initial_len) where
+module _ {C N : Type 0} (acts : Link.Ghosts C) (seen : C → Seen) (entry : N → Entry) (means : MeansChain acts seen) where
+  module _ (o : Opening) (l : Lengths) (s t : ChannelView C) (nodes : List Datanode) (v : View) (store : List ℕ) (long : l.store ≡ length store) (initial : length (seen s.link).kept ≡ o.initial_len) where
     record Began : Type 0 where
-      holds : Holds (begun (seen a).kept nodes) v store (seen b)
+      holds : Holds (begun (seen s.link).kept nodes) v store (seen t.link)
       stamp : v.stamp ≡ o.stamp
 
-    of_reply : (request request' answer answer' : List ℕ) (reply : Reply) (token : Token) (terms : Terms) (chain : List Datanode)
-        → SetsUpFor sets o terms token chain a request request' answer answer' reply b → Started reply o l token chain None v → Began
-    of_reply request request' answer answer' (Ok u) token terms chain d s =
-        let n = set_up_anew sets seen setting d.wanted chain a b request request' answer answer' u d.sets_up in
+    of_reply : (reply : Reply) (token : Token) (terms : Terms) (chain : List Datanode)
+        → SetsUpFor acts o terms token chain s reply t → Started reply o l token chain None v → Began
+    of_reply (Ok u) token terms chain d f =
+        let n = set_up_anew acts seen means d.wanted chain s t u d.sets_up in
         record {
-          holds = fresh_holds o l token chain nodes v store (seen a) (seen b) n.setup long s.1 initial (n.is ∙ ap (λ (k : ℕ). rebuilt n.setup k (seen a)) d.settles.of_least);
-          stamp = s.1.stamp;
+          holds = fresh_holds o l token chain nodes v store (seen s.link) (seen t.link) n.setup long f.1 initial (n.is ∙ ap (λ (k : ℕ). rebuilt n.setup k (seen s.link)) d.wants.of_least);
+          stamp = f.1.stamp;
         }
-    of_reply request request' answer answer' (Err why) token terms chain d s = absurd (none-some _ s.0)
+    of_reply (Err why) token terms chain d f = absurd (none-some _ f.0)
 
-    of_refusal : (request request' answer answer' : List ℕ) (r : Option Refusal) → Opens sets r o l a request answer None v b request' answer' → Began
-    of_refusal request request' answer answer' (Some refusal) d = absurd (none-some _ d.0)
-    of_refusal request request' answer answer' None d = of_reply request request' answer answer' d.reply d.token d.terms d.nodes d.sets_up d.then
+    of_refusal : (r : Option Refusal) → Opens acts r o l s None v t → Began
+    of_refusal (Some refusal) d = absurd (none-some _ d.0)
+    of_refusal None d = of_reply d.reply d.token d.terms d.nodes d.sets_up d.follows
 
-  pub opened : (o : Opening) (link : C) (p : Point C N) → Begins sets seen entry o link p
+  pub opened : (o : Opening) (link : C) (p : Point C N) → Begins acts seen entry o link p
       → Holds p.history (view_of p.writer) p.store (seen p.link) × Entered (view_of p.writer) p.history.chain (entry p.namenode)
   opened o link p b =
       let l = lengths_of p.store b.frame b.request b.answer in
-      let k = of_refusal o l link p.link b.nodes (view_of p.writer) p.store refl b.initial b.request b.request' b.answer b.answer' (open_refusal o l) b.opens in
+      let k = of_refusal o l (channel_over link b.request b.answer) (channel_over p.link b.request' b.answer') b.nodes (view_of p.writer) p.store refl b.initial (open_refusal o l) b.opens in
       (rw b.history k.holds, λ z. rw b.history (record { stamp_is = b.stamp ∙ sym k.stamp; ids = b.ids; storages = b.storages }))

@@ -12,7 +12,7 @@ use Rattle.writer.specs.declared.admit.Lengths.{Lengths}
 use Rattle.writer.specs.declared.state.kind.State.{State}
 use Rattle.writer.specs.declared.state.kind.State.TheVariants.{Streaming, Finishing, Broken, Complete, Closed}
 use Rattle.writer.specs.Admits.{by_state, refusal_for}
-use Rattle.writer.specs.Recovering.{state_on, restored}
+use Rattle.writer.specs.Stages.{state_on, restored}
 use Rattle.writer.specs.Sizes.{capacity}
 use Rattle.writer.specs.States.{ended, IsBrokenState}
 use Rattle.writer.specs.Views.{View, chunk_of, with_state, held_in, filling_in}

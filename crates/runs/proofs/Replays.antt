@@ -6,7 +6,8 @@ use Rattle.packet.specs.Frame.{Packet, octets_of}
 use Rattle.packet.specs.Reading.{Carried}
 use Rattle.held.specs.Slots.{total, size_at, slot_of, last_at, packets}
 use Rattle.held.proofs.Packets.{slot_long}
-use Rattle.chain.specs.Meaning.{Seen, Puts}
+use Rattle.chain.specs.declared.link.Link as Link
+use Rattle.chain.specs.Meaning.{Seen}
 use Rattle.writer.specs.declared.state.kind.State.{State}
 use Rattle.writer.specs.declared.state.kind.State.TheVariants.{Streaming, Finishing, Broken, Complete, Closed}
 use Rattle.writer.specs.declared.terms.Terms.{Terms}
@@ -15,6 +16,7 @@ use Rattle.writer.specs.Sizes.{capacity}
 use Rattle.writer.specs.States.{ended, last_ones}
 use Rattle.writer.specs.Views.{View, least_of, held_in}
 use Rattle.runs.proofs.Invariant.{Fit}
+use Rattle.runs.proofs.Means.{MeansChain}
 use Rattle.runs.proofs.Taken.{carried, pending_more}
 
 -- each has room in a frame, and none is a heartbeat
@@ -53,20 +55,19 @@ pub record PutAgain (ps : List Packet) (lost : Option ℕ) (x y : Seen) : Type 0
   pub kept : y.kept ≡ x.kept
   pub pending : lost ≡ None → y.pending ≡ x.pending ++ ps
 
-module _ {C : Type 0} (puts : C → List ℕ → Bool → C → Type 0) (seen : C → Seen)
-    (putting : (a b : C) (frame : List ℕ) (taken : Bool) → puts a frame taken b → Puts frame taken (seen a) (seen b)) where
-  pub replayed_all : {ps : List Packet} {frame frame' : List ℕ} {a b : C} {n : ℕ} {lost : Option ℕ} → Numbered ps → Replays puts ps frame a n lost frame' b → PutAgain ps lost (seen a) (seen b)
+module _ {C : Type 0} (acts : Link.Ghosts C) (seen : C → Seen) (means : MeansChain acts seen) where
+  pub replayed_all : {ps : List Packet} {frame frame' : List ℕ} {a b : C} {n : ℕ} {lost : Option ℕ} → Numbered ps → Replays acts ps frame a n lost frame' b → PutAgain ps lost (seen a) (seen b)
   replayed_all {a = a} fit all = record { kept = refl; pending = λ e. sym (append-nil (seen a).pending) }
   replayed_all {ps = p ∷ ps} {a = a} {b = b} fit (again m act rest) =
-      let d = pending_more p (seen a) (seen m) fit.0 fit.1 (putting a m (octets_of p) true act) in
+      let d = pending_more p (seen a) (seen m) fit.0 fit.1 (means.putting a m (octets_of p) true act) in
       let r = replayed_all fit.2 rest in
       record {
         kept = r.kept ∙ ap (λ (x : Seen). x.kept) d;
         pending = λ e. r.pending e ∙ ap (λ (x : Seen). x.pending ++ ps) d ∙ append_assoc (seen a).pending (p ∷ []) ps;
       }
   replayed_all {a = a} {b = b} fit (ends act) =
-      record { kept = ap (λ (x : Seen). x.kept) (putting _ _ _ false act); pending = λ e. absurd (none-some _ (sym e)) }
+      record { kept = ap (λ (x : Seen). x.kept) (means.putting _ _ _ false act); pending = λ e. absurd (none-some _ (sym e)) }
 
   pub replayed : (v : View) (store : List ℕ) (o : ℕ) → Fit v (length store) → o ≡ least_of v
-      → (frame : List ℕ) (a : C) (n : ℕ) (lost : Option ℕ) (frame' : List ℕ) (b : C) → Replays puts (held_in v store o) frame a n lost frame' b → PutAgain (held_in v store o) lost (seen a) (seen b)
+      → (frame : List ℕ) (a : C) (n : ℕ) (lost : Option ℕ) (frame' : List ℕ) (b : C) → Replays acts (held_in v store o) frame a n lost frame' b → PutAgain (held_in v store o) lost (seen a) (seen b)
   replayed v store o f e frame a n lost frame' b d = replayed_all (held_numbered v store o f e) d

@@ -31,7 +31,7 @@ pub taken : (q : Packet) (s t : Seen) → Carried q → Puts (octets_of q) true 
 taken q s t c d = d.is ∙ ap (λ (p : Packet). with_packet p s) (unique d.packet q d.carried c d.reads)
 
 pub pending_more : (q : Packet) (s t : Seen) → Carried q → q.seqno < 2 ^ 64 - 1 → Puts (octets_of q) true s t
-    → t ≡ record { kept = s.kept; pending = s.pending ++ q ∷ []; nodes = s.nodes; chunk = s.chunk }
+    → t ≡ record s { pending = s.pending ++ q ∷ [] }
 pending_more q s t c less d = taken q s t c d ∙ cond-false (eqb q.seqno (2 ^ 64 - 1)) _ _ (ne_eqb _ _ (λ e. omega (arith, e)))
 
 -- a heartbeat

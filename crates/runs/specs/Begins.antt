@@ -1,9 +1,12 @@
--- How a run begins: a block is opened without refusal, over a pipeline and a namenode that have what it was opened with. Assumes nothing.
-use Rattle.std.specs.Prelude.{◌≡◌, ℕ, List, length, map, None, Option}
+-- How a run begins: a block is opened without refusal, over a pipeline and a namenode that have what it was opened with.
+-- Assumes nothing.
+use Rattle.std.specs.Prelude.{◌≡◌, ℕ, List, length, map, None}
 use Rattle.proto.specs.declared.datanode.Datanode.{Datanode}
 use Rattle.proto.specs.Messages.{octets_in, id_of}
+use Rattle.chain.specs.declared.link.Link as Link
 use Rattle.chain.specs.Meaning.{Seen}
 use Rattle.namenode.specs.Entries.{Entry}
+use Rattle.pipeline.specs.Channels.{channel_over}
 use Rattle.pipeline.specs.Offers.{Rows}
 use Rattle.writer.specs.declared.opening.Opening.{Opening}
 use Rattle.writer.specs.Admits.{lengths_of}
@@ -12,16 +15,18 @@ use Rattle.writer.specs.Views.{view_of}
 use Rattle.runs.specs.History.{begun}
 use Rattle.runs.specs.Runs.{Point}
 
-module _ {C N : Type 0} (sets : C → Datanode → List ℕ → ℕ → Option (List ℕ) → C → Type 0) (seen : C → Seen) (entry : N → Entry) where
-  -- the pipeline's kept bytes are the initial ones, as many as the opening says; the namenode's entry names the opening's stamp and datanodes;
-  -- `link` was the pipeline before the opening set it up
+module _ {C N : Type 0} (acts : Link.Ghosts C) (seen : C → Seen) (entry : N → Entry) where
+  -- the pipeline's kept bytes are the initial ones, as many as the opening says; the namenode's entry names the
+  -- opening's stamp and datanodes; `link` was the pipeline before the opening set it up
   pub record Begins (o : Opening) (link : C) (p : Point C N) : Type 0 where
     pub frame : List ℕ
     pub request : List ℕ
     pub request' : List ℕ
     pub answer : List ℕ
     pub answer' : List ℕ
-    pub opens : Opens sets (open_refusal o (lengths_of p.store frame request answer)) o (lengths_of p.store frame request answer) link request answer None (view_of p.writer) p.link request' answer'
+    pub opens : Opens acts (open_refusal o (lengths_of p.store frame request answer)) o
+        (lengths_of p.store frame request answer) (channel_over link request answer)
+        None (view_of p.writer) (channel_over p.link request' answer')
     pub nodes : List Datanode
     pub listed : Rows (rows_in o) nodes
     pub initial : length (seen link).kept ≡ o.initial_len

@@ -1,7 +1,7 @@
 //! A client that makes calls from a list.
 ghost use Rattle.runs.specs.History.{History};
 ghost use Rattle.runs.specs.Made.{Made};
-ghost use Rattle.runs.specs.Runs.{Step};
+ghost use Rattle.runs.specs.Runs.{point_of, Step};
 
 use crate::command::{Command, Outcome};
 use chain::link::Link;
@@ -21,9 +21,10 @@ pub fn call<C: Chain, N: Namenode>(
     answer: &mut [u8],
     command: Command<'_>,
 ) -> Outcome
-    ensures { (h : History) → (k : History) × Step C.Link.sets C.Link.puts C.Link.nexts C.Link.transfers N.NamenodeProtocol.lists N.NamenodeProtocol.stamps N.NamenodeProtocol.updates C.Chain.seen command.entry
-        (record { history = h; writer = writer.old; store = store.old; link = link.old; namenode = namenode.old }) result
-        (record { history = k; writer = writer.new; store = store.new; link = link.new; namenode = namenode.new }) }
+    ensures {
+        (h : History) → (k : History) × Step C.Link N.NamenodeProtocol C.Chain.seen command.entry
+            (point_of h writer.old store.old link.old namenode.old) result
+            (point_of k writer.new store.new link.new namenode.new) }
 {
     match command {
         Command::Write(bytes) => {
@@ -53,9 +54,10 @@ pub fn run<C: Chain, N: Namenode>(
     commands: &[Command<'_>],
     outcomes: &mut [Option<Outcome>],
 )
-    ensures { (h : History) → Made C.Link.sets C.Link.puts C.Link.nexts C.Link.transfers N.NamenodeProtocol.lists N.NamenodeProtocol.stamps N.NamenodeProtocol.updates C.Chain.seen N.Namenode.entry h
-        (record { writer = writer.old; store = store.old; link = link.old; namenode = namenode.old }) commands.now outcomes.old
-        (record { writer = writer.new; store = store.new; link = link.new; namenode = namenode.new }) outcomes.new }
+    ensures {
+        (h : History) → Made C.Link N.NamenodeProtocol C.Chain.seen N.Namenode.entry
+            (point_of h writer.old store.old link.old namenode.old) commands.now outcomes.old
+            (λ k. point_of k writer.new store.new link.new namenode.new) outcomes.new }
 {
     // Stays by the place: of what is written through an iterator a proof knows the length alone.
     'calls: for i in 0..commands.len().min(outcomes.len()) {

@@ -1,9 +1,9 @@
 use Rattle.runs.specs.History.{History}
+use Rattle.runs.specs.Runs.{point_of}
 use Rattle.runs.proofs.Clients.{Sofar}
 use Rattle.runs.proofs.client.run.Given as goal
 
 abbrev pub invariant-calls : goal.invariant-calls
 invariant-calls g l =
-    (h : History) → Sofar g.C.Link.sets g.C.Link.puts g.C.Link.nexts g.C.Link.transfers g.N.NamenodeProtocol.lists g.N.NamenodeProtocol.stamps g.N.NamenodeProtocol.updates g.C.Chain.seen h
-    (record { writer = l.fn.writer; store = l.fn.store; link = l.fn.link; namenode = l.fn.namenode }) l.fn.commands l.fn.outcomes l.i
-    (record { writer = l.writer; store = l.store; link = l.link; namenode = l.namenode }) l.outcomes
+    (h : History) → Sofar g.C.Link g.N.NamenodeProtocol g.C.Chain.seen (point_of h l.fn.writer l.fn.store l.fn.link l.fn.namenode) l.fn.commands l.fn.outcomes l.i
+    (λ k. point_of k l.writer l.store l.link l.namenode) l.outcomes
