@@ -49,7 +49,7 @@ impl Writer {
         time: u64,
     ) -> Result<Beat, Refusal>
         requires state_value { self.old.state ≡ Streaming }
-        requires terms_in_bounds { frame_room self.old.terms ≤ length frame.old }
+        requires frame_len { frame_room self.old.terms ≤ length frame.old }
         ensures {
             PutsBeat L.Link time (streamer_of self.old store.now frame.old link.old) result
                 (streamer_of self.new store.now frame.new link.new) }
@@ -101,7 +101,7 @@ impl Writer {
         time: u64,
     ) -> Result<Beat, Refusal>
         requires state_value { self.old.state ≡ Streaming }
-        requires terms_in_bounds { frame_room self.old.terms ≤ length frame.old }
+        requires frame_len { frame_room self.old.terms ≤ length frame.old }
         ensures {
             BeatsIf L.Link (is_due (view_of self.old) time) time
                 (streamer_of self.old store.now frame.old link.old) result

@@ -5,7 +5,7 @@ ghost use Rattle.writer.specs.declared.admit.Call.TheVariants as call;
 ghost use Rattle.writer.specs.declared.state.kind.State.TheVariants.{Streaming};
 ghost use Rattle.writer.specs.Admits.{lengths_of};
 ghost use Rattle.writer.specs.Calls.{streamer_of, UnlessRefused};
-ghost use Rattle.writer.specs.Sizes.{frame_room};
+ghost use Rattle.writer.specs.Sizes.{Suffice};
 ghost use Rattle.writer.specs.Views.{view_of};
 ghost use Rattle.writer.specs.Finishing.{closing_packets, finish_refusal, unsent_last, Ends, Empties, EndsIf, Finishes};
 
@@ -40,8 +40,7 @@ impl Writer {
     // Room for the packets that end the block was looked at once, by `admit_finish`, which refuses where there is none.
     fn end<L: Link>(&mut self, link: &mut L, store: &[u8], frame: &mut [u8]) -> Finished
         requires state_value { self.old.state ≡ Streaming }
-        requires store_len { length store.now ≡ self.old.terms.store_len }
-        requires terms_in_bounds { frame_room self.old.terms ≤ length frame.old }
+        requires buffers { Suffice self.old.terms store.now frame.old }
         requires filling_value { self.old.filling ≡ 0 }
         requires count_bound { self.old.count + 1 < self.old.terms.slots }
         ensures {
@@ -73,8 +72,7 @@ impl Writer {
     // Hands over the packet being filled, and then the last one.
     fn empty<L: Link>(&mut self, link: &mut L, store: &[u8], frame: &mut [u8]) -> Finished
         requires state_value { self.old.state ≡ Streaming }
-        requires store_len { length store.now ≡ self.old.terms.store_len }
-        requires terms_in_bounds { frame_room self.old.terms ≤ length frame.old }
+        requires buffers { Suffice self.old.terms store.now frame.old }
         requires filling_nonzero { 0 < self.old.filling }
         requires count_bound { self.old.count + 2 < self.old.terms.slots }
         ensures {
@@ -93,8 +91,7 @@ impl Writer {
 
     fn end_block<L: Link>(&mut self, link: &mut L, store: &[u8], frame: &mut [u8]) -> Finished
         requires state_value { self.old.state ≡ Streaming }
-        requires store_len { length store.now ≡ self.old.terms.store_len }
-        requires terms_in_bounds { frame_room self.old.terms ≤ length frame.old }
+        requires buffers { Suffice self.old.terms store.now frame.old }
         requires self_bound { self.old.count + closing_packets (view_of self.old) < self.old.terms.slots }
         ensures {
             EndsIf L.Link (self.old.filling == 0) (streamer_of self.old store.now frame.old link.old) result

@@ -2,7 +2,7 @@
 ghost use Rattle.std.specs.Prelude.{◌≡◌, ◌+◌, ◌<◌, ◌≤◌, length, take, drop, if◌then◌else◌, is_ok};
 ghost use Rattle.packet.specs.Frame.{octets_of, over};
 ghost use Rattle.writer.specs.declared.cause.Cause.TheVariants.{Put};
-ghost use Rattle.writer.specs.Sizes.{frame_room};
+ghost use Rattle.writer.specs.Sizes.{Suffice};
 ghost use Rattle.writer.specs.States.{ended, last_ones};
 ghost use Rattle.writer.specs.Views.{view_of, next_of, with_held, broken_by, outgoing};
 
@@ -52,8 +52,7 @@ impl Writer {
         store: &[u8],
         frame: &mut [u8],
     ) -> Result<(), LinkLost>
-        requires store_len { length store.now ≡ self.now.terms.store_len }
-        requires terms_in_bounds { frame_room self.now.terms ≤ length frame.old }
+        requires buffers { Suffice self.now.terms store.now frame.old }
         ensures put { L.Link.puts link.old (octets_of (outgoing (view_of self.now) store.now)) (is_ok result) link.new }
         ensures frame { frame.new ≡ over (outgoing (view_of self.now) store.now) frame.old }
     {
@@ -75,8 +74,7 @@ impl Writer {
         store: &[u8],
         frame: &mut [u8],
     ) -> Result<(), LinkLost>
-        requires store_len { length store.now ≡ self.old.terms.store_len }
-        requires terms_in_bounds { frame_room self.old.terms ≤ length frame.old }
+        requires buffers { Suffice self.old.terms store.now frame.old }
         requires count_bound { self.old.count + 1 < self.old.terms.slots }
         requires initial_len_bound {
             self.old.first + self.old.count + 1 + self.old.terms.initial_len

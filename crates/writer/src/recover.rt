@@ -5,7 +5,7 @@ ghost use Rattle.writer.specs.declared.admit.Call.TheVariants as call;
 ghost use Rattle.writer.specs.Admits.{refusal_for, lengths_of};
 ghost use Rattle.writer.specs.Calls.{site_of, UnlessRefused};
 ghost use Rattle.writer.specs.Recovering.{left_of, gone_of, beyond, Resumes, Builds, AsksStamp, Rebuilds, IfSurvived, Recovers};
-ghost use Rattle.writer.specs.Sizes.{frame_room};
+ghost use Rattle.writer.specs.Sizes.{Suffice};
 ghost use Rattle.writer.specs.States.{IsBrokenState};
 ghost use Rattle.writer.specs.Views.{view_of, least_of};
 
@@ -48,8 +48,7 @@ impl Writer {
     ) -> Result<Recovered, Refusal>
         requires is_broken { IsBrokenState self.old.state }
         requires least_value { set_up.least ≡ least_of (view_of self.old) }
-        requires store_len { length store.now ≡ self.old.terms.store_len }
-        requires terms_in_bounds { frame_room self.old.terms ≤ length frame.old }
+        requires buffers { Suffice self.old.terms store.now frame.old }
         ensures same { SameLoans channel.old channel.new }
         ensures acts {
             Resumes L.Link N.NamenodeProtocol set_up token choice self.old.chosen.rows.items time
@@ -77,8 +76,7 @@ impl Writer {
     ) -> Result<Recovered, Refusal>
         requires is_broken { IsBrokenState self.old.state }
         requires least_value { stamped.least ≡ least_of (view_of self.old) }
-        requires store_len { length store.now ≡ self.old.terms.store_len }
-        requires terms_in_bounds { frame_room self.old.terms ≤ length frame.old }
+        requires buffers { Suffice self.old.terms store.now frame.old }
         requires some_left { 1 ≤ length self.old.chosen.rows.items }
         ensures same { SameLoans channel.old channel.new }
         ensures acts {
@@ -107,8 +105,7 @@ impl Writer {
         time: u64,
     ) -> Result<Recovered, Refusal>
         requires is_broken { IsBrokenState self.old.state }
-        requires store_len { length store.now ≡ self.old.terms.store_len }
-        requires terms_in_bounds { frame_room self.old.terms ≤ length frame.old }
+        requires buffers { Suffice self.old.terms store.now frame.old }
         requires some_left { 1 ≤ length self.old.chosen.rows.items }
         ensures same { SameLoans channel.old channel.new }
         ensures acts {
@@ -135,8 +132,7 @@ impl Writer {
         time: u64,
     ) -> Result<Recovered, Refusal>
         requires is_broken { IsBrokenState self.old.state }
-        requires store_len { length store.now ≡ self.old.terms.store_len }
-        requires terms_in_bounds { frame_room self.old.terms ≤ length frame.old }
+        requires buffers { Suffice self.old.terms store.now frame.old }
         requires left { self.old.chosen.rows.items ≡ left_of (view_of self.old) }
         requires gone { self.old.gone.rows.items ≡ gone_of (view_of self.old) }
         requires some_left { 1 ≤ length self.old.chosen.rows.items }
@@ -161,8 +157,7 @@ impl Writer {
         time: u64,
     ) -> Result<Recovered, Refusal>
         requires is_broken { IsBrokenState self.old.state }
-        requires store_len { length store.now ≡ self.old.terms.store_len }
-        requires terms_in_bounds { frame_room self.old.terms ≤ length frame.old }
+        requires buffers { Suffice self.old.terms store.now frame.old }
         ensures same { SameLoans channel.old channel.new }
         ensures acts {
             IfSurvived L.Link N.NamenodeProtocol (beyond (view_of self.old)) time

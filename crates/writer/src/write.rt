@@ -4,7 +4,7 @@ ghost use Rattle.writer.specs.declared.admit.Call.TheVariants as call;
 ghost use Rattle.writer.specs.declared.state.kind.State.TheVariants.{Streaming};
 ghost use Rattle.writer.specs.Admits.{refusal_for, lengths_of};
 ghost use Rattle.writer.specs.Calls.{streamer_of, UnlessRefused};
-ghost use Rattle.writer.specs.Sizes.{frame_room};
+ghost use Rattle.writer.specs.Sizes.{Suffice};
 ghost use Rattle.writer.specs.Views.{view_of};
 ghost use Rattle.writer.specs.Writing.{Turns, Writes, Wrote};
 
@@ -45,8 +45,7 @@ impl Writer {
         bytes: &[u8],
     ) -> Turned
         requires state_value { self.old.state ≡ Streaming }
-        requires store_len { length store.old ≡ self.old.terms.store_len }
-        requires terms_in_bounds { frame_room self.old.terms ≤ length frame.old }
+        requires buffers { Suffice self.old.terms store.old frame.old }
         ensures {
             Turns L.Link bytes.now (streamer_of self.old store.old frame.old link.old) result
                 (streamer_of self.new store.new frame.new link.new) }
@@ -75,8 +74,7 @@ impl Writer {
         bytes: &[u8],
     ) -> Written
         requires state_value { self.old.state ≡ Streaming }
-        requires store_len { length store.old ≡ self.old.terms.store_len }
-        requires terms_in_bounds { frame_room self.old.terms ≤ length frame.old }
+        requires buffers { Suffice self.old.terms store.old frame.old }
         ensures {
             Writes L.Link (streamer_of self.old store.old frame.old link.old) bytes.now
                 result.taken result.put_lost (streamer_of self.new store.new frame.new link.new) }

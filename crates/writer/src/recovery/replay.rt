@@ -2,7 +2,7 @@
 ghost use Rattle.std.specs.Prelude.{◌≡◌, ◌+◌, ◌-◌, ◌<◌, ◌≤◌, length, is_ok};
 ghost use Rattle.packet.specs.Frame.{octets_of, over};
 ghost use Rattle.held.specs.Slots.{sizes_of, size_at, last_at};
-ghost use Rattle.writer.specs.Sizes.{capacity, frame_room};
+ghost use Rattle.writer.specs.Sizes.{capacity, Suffice};
 ghost use Rattle.writer.specs.Stages.{ReplaysOn};
 ghost use Rattle.writer.specs.Views.{view_of, held_packet, least_of};
 
@@ -36,8 +36,7 @@ impl Writer {
         offset: u64,
         last: bool,
     ) -> Result<(), LinkLost>
-        requires store_len { length store.now ≡ self.now.terms.store_len }
-        requires terms_in_bounds { frame_room self.now.terms ≤ length frame.old }
+        requires buffers { Suffice self.now.terms store.now frame.old }
         ensures put {
             L.Link.puts link.old (octets_of (held_packet (view_of self.now) store.now offset seqno last))
                 (is_ok result) link.new }
@@ -72,8 +71,7 @@ impl SetUp {
         frame: &mut [u8],
     ) -> Replayed
         requires least_value { self.least ≡ least_of (view_of writer.now) }
-        requires store_len { length store.now ≡ writer.now.terms.store_len }
-        requires terms_in_bounds { frame_room writer.now.terms ≤ length frame.old }
+        requires buffers { Suffice writer.now.terms store.now frame.old }
         ensures { ReplaysOn L.Link (view_of writer.now) store.now self frame.old link.old result frame.new link.new }
     {
         let SetUp { least, stamp } = self;

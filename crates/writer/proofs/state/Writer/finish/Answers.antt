@@ -14,4 +14,4 @@ end_block-requires g c =
     let e = subst (λ (n : Lengths). finish_refusal v n ≡ None) c.of.ensures (sym c.in_ok-admit_finish.ensures) in
     let fit = finishes_fit v l e in
     let room = fits_room v call.Finish l fit.0 in
-    record { state_value = streams_finish v.state (fits_state v call.Finish l fit.0); store_len = room.store; terms_in_bounds = room.frame; self_bound = fit.1 }
+    record { state_value = streams_finish v.state (fits_state v call.Finish l fit.0); buffers = record { store_len = room.store; frame_len = room.frame }; self_bound = fit.1 }

@@ -9,13 +9,13 @@ use Rattle.writer.proofs.Turns.{begin, then_poured, then_handed, ends_lost, ends
 use Rattle.writer.proofs.state.Writer.pour.Goals as goal
 
 pub turns-init : goal.turns-init
-turns-init g c = (omega arith, c.requires.state_value, c.requires.store_len, c.requires.terms_in_bounds, begin g.L.Link _ c.args.bytes.now)
+turns-init g c = (omega arith, c.requires.state_value, c.requires.buffers, begin g.L.Link _ c.args.bytes.now)
 
 pub returns-in-Stopped : goal.returns-in-Stopped
-returns-in-Stopped g c = let e = c.in-Stopped.ensures in ends_stopped g.L.Link _ c.args.bytes.now c.turns.taken _ c.turns.invariant.4 _ e.0 e.1
+returns-in-Stopped g c = let e = c.in-Stopped.ensures in ends_stopped g.L.Link _ c.args.bytes.now c.turns.taken _ c.turns.invariant.3 _ e.0 e.1
 
 pub returns-in-Lost : goal.returns-in-Lost
-returns-in-Lost g c = let e = c.in-Lost.ensures in ends_lost g.L.Link _ c.args.bytes.now c.turns.taken _ c.turns.invariant.4 _ e.0 e.1 e.2
+returns-in-Lost g c = let e = c.in-Lost.ensures in ends_lost g.L.Link _ c.args.bytes.now c.turns.taken _ c.turns.invariant.3 _ e.0 e.1 e.2
 
 pub turns-preserved-in-Poured : goal.turns-preserved-in-Poured
 turns-preserved-in-Poured g c =
@@ -29,9 +29,8 @@ turns-preserved-in-Poured g c =
     let at : c.turn.new.self.terms ≡ c.turns.self.terms = ap (λ (p : Streamer _). p.view.terms) e.2 in (
       omega (arith, e.1, amount_le v (length rest), len),
       ap (λ (p : Streamer _). p.view.state) e.2 ∙ i.1,
-      omega (arith, i.2, ap (λ (t : Terms). t.store_len) at),
-      omega (arith, i.3, ap frame_room at),
-      then_poured g.L.Link _ bytes a _ i.4 c.in-Poured.n _ e.0 e.1 e.2,
+      record { store_len = omega (arith, i.2.store_len, ap (λ (t : Terms). t.store_len) at); frame_len = omega (arith, i.2.frame_len, ap frame_room at) },
+      then_poured g.L.Link _ bytes a _ i.3 c.in-Poured.n _ e.0 e.1 e.2,
     )
 
 pub turns-preserved : goal.turns-preserved
@@ -41,9 +40,8 @@ turns-preserved g c =
     let at : c.turn.new.self.terms ≡ c.turns.self.terms = ap (λ (p : Streamer _). p.view.terms) e.2 in (
       i.0,
       ap (λ (p : Streamer _). p.view.state) e.2 ∙ i.1,
-      omega (arith, i.2, ap (λ (t : Terms). t.store_len) at),
-      omega (arith, i.3, ap frame_room at),
-      then_handed g.L.Link _ c.args.bytes.now c.turns.taken _ i.4 _ e.0 e.1 e.2,
+      record { store_len = omega (arith, i.2.store_len, ap (λ (t : Terms). t.store_len) at); frame_len = omega (arith, i.2.frame_len, ap frame_room at) },
+      then_handed g.L.Link _ c.args.bytes.now c.turns.taken _ i.3 _ e.0 e.1 e.2,
     )
 
 pub turns-smaller-in-Poured : goal.turns-smaller-in-Poured

@@ -8,4 +8,4 @@ pub put_packet-put-requires : goal.put_packet-put-requires
 put_packet-put-requires g c =
     let w = c.args.self.now in
     let p : WritePacket = record { offset = 0; seqno = 18446744073709551615; last = false; «data» = record { ref_ptr = (0, 0); now = [] } } in
-    subst (λ (k : ℕ). fits_in (summed k p) c.args.frame.now ≡ true) (sym c.chunk_size.ensures) (size_fits w.terms.size (summed w.terms.size.chunk p) c.args.frame.now refl (omega arith) c.requires.terms_in_bounds)
+    subst (λ (k : ℕ). fits_in (summed k p) c.args.frame.now ≡ true) (sym c.chunk_size.ensures) (size_fits w.terms.size (summed w.terms.size.chunk p) c.args.frame.now refl (omega arith) c.requires.frame_len)

@@ -7,7 +7,7 @@ use Rattle.writer.proofs.Rooms.{filling_small}
 use Rattle.writer.proofs.state.Writer.put_outgoing.Goals as goal
 
 pub bytes_at-requires : goal.bytes_at-requires
-bytes_at-requires g c = let w = c.args.self.now in omega (arith, c.slot_start.ensures.within, filling_small w, c.requires.store_len)
+bytes_at-requires g c = let w = c.args.self.now in omega (arith, c.slot_start.ensures.within, filling_small w, c.requires.buffers.store_len)
 
 pub put_packet-requires : goal.put_packet-requires
 put_packet-requires g c =
@@ -16,4 +16,4 @@ put_packet-requires g c =
     let long : length c.bytes_at.result.now ≤ capacity w.terms =
     omega (arith, ap length c.bytes_at.ensures, length-take w.filling (drop c.slot_start.result c.args.store.now), filling_small w) in
     let e = c.chunk_size.ensures in
-    subst (λ (k : ℕ). fits_in (summed k p) c.args.frame.now ≡ true) (sym e) (size_fits w.terms.size (summed w.terms.size.chunk p) c.args.frame.now refl long c.requires.terms_in_bounds)
+    subst (λ (k : ℕ). fits_in (summed k p) c.args.frame.now ≡ true) (sym e) (size_fits w.terms.size (summed w.terms.size.chunk p) c.args.frame.now refl long c.requires.buffers.frame_len)

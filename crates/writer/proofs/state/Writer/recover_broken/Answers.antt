@@ -1,7 +1,7 @@
-use Rattle.std.proofs.Common.{sym, ap, ◌∙◌, subst, arith}
+use Rattle.std.proofs.Common.{sym, ap, ◌∙◌, subst}
 use Rattle.writer.specs.declared.terms.Terms.{Terms}
 use Rattle.writer.specs.Recovering.{left_of, gone_of}
-use Rattle.writer.specs.Sizes.{frame_room}
+use Rattle.writer.specs.Sizes.{Suffice}
 use Rattle.writer.specs.States.{IsBrokenState}
 use Rattle.writer.specs.Views.{View}
 use Rattle.writer.proofs.state.Writer.recover_broken.Goals as goal
@@ -16,8 +16,7 @@ choose_and_rebuild-requires g c =
     let terms = ap (λ (v : View). v.terms) e in
     record {
       is_broken = subst IsBrokenState (sym state) c.requires.is_broken;
-      store_len = c.requires.store_len ∙ ap (λ (t : Terms). t.store_len) (sym terms);
-      terms_in_bounds = omega (arith, c.requires.terms_in_bounds, ap frame_room terms);
+      buffers = subst (λ (t : Terms). Suffice t c.args.store.now c.args.frame.now) (sym terms) c.requires.buffers;
       left = p.0 ∙ ap left_of (sym e);
       gone = p.1 ∙ ap gone_of (sym e);
       some_left = p.2;

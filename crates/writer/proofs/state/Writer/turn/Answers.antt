@@ -1,4 +1,5 @@
-use Rattle.std.proofs.Common.{◌≡◌, ◌+◌, ◌<◌, cond, sym, ap, ◌∙◌, arith}
+use Rattle.std.proofs.Common.{◌≡◌, ◌+◌, ◌<◌, sym, ap, ◌∙◌, arith}
+use Rattle.std.specs.Prelude.{if◌then◌else◌}
 use Rattle.writer.specs.declared.state.kind.State.{State}
 use Rattle.writer.specs.States.{ended, last_ones}
 use Rattle.writer.proofs.Rooms.{room_some}
@@ -10,4 +11,4 @@ hand_over-requires g c =
     let on = c.requires.state_value in
     let none : last_ones w.state ≡ 0 = ap last_ones on in
     let some : 0 < w.filling = omega (arith, room_some w.terms (w.first + w.count), c.packet_capacity.ensures) in
-    record { store_len = c.requires.store_len; terms_in_bounds = c.requires.terms_in_bounds; count_bound = omega arith; initial_len_bound = omega (arith, w.numbers); state_value = none ∙ sym (ap (λ (s : State). cond (ended s) 1 0) on) }
+    record { buffers = c.requires.buffers; count_bound = omega arith; initial_len_bound = omega (arith, w.numbers); state_value = none ∙ sym (ap (λ (s : State). if ended s then 1 else 0) on) }
