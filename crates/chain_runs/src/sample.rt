@@ -18,7 +18,6 @@ pub fn node() -> Result<Datanode, Fail> {
     Ok(Datanode::new(NODE, b"DS-1", 1).ok_or("the datanode is not in form")?)
 }
 
-// The recorder has a sample alike: the program and the runs share no crate but those under test, and their errors differ.
 /// A request for a pipeline of one node and `others` more, over chunks of four bytes.
 pub fn request(others: usize, out: &mut [u8]) -> Result<&[u8], Fail> {
     if others > 7 {

@@ -3,7 +3,7 @@
 
 ghost use Rattle.std.specs.Prelude.{◌≡◌, ℕ, List, ◌++◌};
 ghost use Rattle.crc32c.specs.Vectors.{Vectors};
-ghost use Rattle.crc.specs.Crc.{after, sum_of};
+ghost use Rattle.crc.specs.Crc.{sum_of};
 
 use crc::Polynomial;
 
@@ -20,14 +20,7 @@ impl Polynomial for Castagnoli {
     }
 }
 
-// The three below are names for the generic check at this polynomial, so that callers name CRC-32C and no type.
-
-/// The register after `bytes`, where it was `crc` before them. It begins as all ones.
-pub fn update(crc: u32, bytes: &[u8]) -> u32
-    ensures { result ≡ after 0x82F63B78 crc bytes.now }
-{
-    crc::update::<Castagnoli>(crc, bytes)
-}
+// The two below are names for the generic check at this polynomial, so that callers name CRC-32C and no type.
 
 /// The CRC-32C of `bytes`.
 pub fn checksum(bytes: &[u8]) -> u32

@@ -1,5 +1,5 @@
 -- A record changed, seen as the list of sizes. Assumes nothing.
-use Rattle.std.proofs.Common.{◌≡◌, ℕ, zero, suc, List, [], ◌∷◌, length, set, replicate, refl, ap}
+use Rattle.std.proofs.Common.{◌≡◌, ℕ, zero, suc, List, [], ◌∷◌, length, set, refl, ap}
 use Rattle.held.specs.declared.table.HeldPacket.{HeldPacket}
 use Rattle.held.specs.Slots.{sizes_of}
 
@@ -11,7 +11,3 @@ sizes_set (r ∷ rs) (suc i) n = ap (λ (z : List ℕ). r.len ∷ z) (sizes_set 
 pub sizes_long : (rs : List HeldPacket) → length (sizes_of rs) ≡ length rs
 sizes_long [] = refl
 sizes_long (r ∷ rs) = ap suc (sizes_long rs)
-
-pub sizes_none : (n : ℕ) → sizes_of (replicate n (record { len = 0 })) ≡ replicate n 0
-sizes_none zero = refl
-sizes_none (suc n) = ap (λ (z : List ℕ). 0 ∷ z) (sizes_none n)

@@ -13,9 +13,9 @@ pub struct HeldPacket {
     pub len: usize,
 }
 
-/// A record for each slot that a store may have. A place is a number below theirs: a type for it would be made and taken apart at each call.
+/// A record for each slot that a store may have.
 #[derive(Drop)]
-// No VecDeque: a record stands at the number of the packet's slot in the caller's store, which is counted by the same remainder.
+// A record stands at the number of the packet's slot in the caller's store.
 pub struct HeldTable {
     pub records: Vec<HeldPacket>,
     ghost table: { vec_len records ≡ 101 },

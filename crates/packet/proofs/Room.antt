@@ -84,9 +84,6 @@ size_first s n = first_within s.chunk s.packet n s.accepted.0 s.accepted.1
 pub size_some : (s : PacketSize) → 0 < capacity_of 4 s.chunk s.packet
 size_some s = omega (arith, mul-le 1 1 (chunks_of 4 s.chunk s.packet) s.chunk (chunks_some s.chunk s.packet s.accepted.0 s.accepted.1) (chunk_some s.chunk s.packet s.accepted.0 s.accepted.1))
 
-pub size_most : (s : PacketSize) → capacity_of 4 s.chunk s.packet ≤ 16_777_216
-size_most s = omega (arith, chunks_most s.chunk s.packet s.accepted.0 s.accepted.1, mul-add (chunks_of 4 s.chunk s.packet) s.chunk 4)
-
 pub size_first_some : (s : PacketSize) (n : ℕ) → 0 < first_capacity_of 4 s.chunk s.packet n
 size_first_some s n =
     cond_both (eqb (n % s.chunk) 0) (capacity_of 4 s.chunk s.packet) (s.chunk - n % s.chunk) (λ x. 0 < x)

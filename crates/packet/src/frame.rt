@@ -16,7 +16,7 @@ pub(crate) const LENGTH_LIMIT: usize = 0x8000_0000;
 
 /// A packet as it is written and read: its place in the block, its number, whether it is the last, and its data.
 #[derive(Clone, Copy, Debug, PartialEq, Eq)]
-// No chunk size in it: a frame does not say it, so that each call takes it beside the packet.
+// A frame does not say its chunk size, so each call takes that beside the packet.
 pub struct WritePacket<'a> {
     pub offset: u64,
     pub seqno: u64,
@@ -34,7 +34,6 @@ pub(crate) fn put_lengths(out: &mut [u8], whole: u32, head: u16)
 }
 
 // How many octets the sums take, where a frame can carry them and the data.
-// An Option: a number that may be too large for the frame's lengths, and no length of a buffer that is handed on.
 fn carried_sums(data_len: usize, chunk_size: u32) -> Option<usize>
     ensures { result ≡ (if nat_lt (4 + (4 * chunk_count chunk_size data_len + data_len)) (2 ^ 31) then Some (4 * chunk_count chunk_size data_len) else None) }
 {
@@ -68,7 +67,6 @@ fn put_frame(out: &mut [u8], packet: WritePacket<'_>, chunk_size: u32, sums: usi
 
 /// Writes the frame of `packet` to the front of `buf`, with the sums of its chunks, and says where it ends.
 /// `None` says that it does not fit, there or in its lengths, and that `buf` is as it was.
-// Answers a place: nothing is allocated, and the contract speaks of the whole buffer, in which the frame ends there.
 pub fn write_frame(buf: &mut [u8], packet: WritePacket<'_>, chunk_size: u32) -> Option<usize>
     ensures value { result ≡ end_in (summed chunk_size packet.entry) buf.old }
     ensures after { buf.new ≡ over (summed chunk_size packet.entry) buf.old }

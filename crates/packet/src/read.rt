@@ -15,8 +15,7 @@ pub struct Frame<'a> {
     pub sums: &'a [u8],
 }
 
-// The octets from `at` on, as many as the type says. No public helper for all crates: it could not ask that the octets are there, and
-// would answer an Option that is excluded here.
+// The octets from `at` on, as many as the type says.
 fn array_at<const N: usize>(bytes: &[u8], at: usize) -> &[u8; N]
     requires { at + N ≤ length bytes.now }
     ensures { result.now ≡ take N (drop at bytes.now) }
@@ -49,7 +48,6 @@ fn put_front(out: &mut [u8], header: PacketHeader, whole: u32)
 
 /// The packet whose frame these octets are, with nothing after it: the one packet that is written so.
 /// `None` says that there is none.
-// An Option: whatever is wrong with a frame, a far end takes it for lost.
 pub fn read_frame(bytes: &[u8]) -> Option<Frame<'_>>
     ensures { Reads bytes.now (packet_in result) }
 {

@@ -5,7 +5,6 @@ ghost use Rattle.packet.specs.Sums.{chunk_count, sums_of};
 
 /// How many octets the sums of `data_len` bytes take, if a `usize` holds it.
 /// No data has none, and there are none where the chunk size is 0.
-// An Option, as that of `checked_mul`: a number that may be too large, and no length of a buffer that is handed on.
 pub fn sums_len(data_len: usize, chunk_size: u32) -> Option<usize>
     ensures { result ≡ (if nat_lt (4 * chunk_count chunk_size data_len) (2 ^ 64) then Some (4 * chunk_count chunk_size data_len) else None) }
 {
@@ -23,7 +22,7 @@ pub(crate) fn put_sums(out: &mut [u8], data: &[u8], chunk_size: u32)
     if chunk_size == 0 {
         return;
     }
-    // Stays by places in `out`: of what is written through `chunks_exact_mut` a proof knows the length alone.
+    // By places in `out`: of what is written through `chunks_exact_mut` a proof knows the length alone.
     for (k, chunk) in data.chunks(chunk_size as usize).enumerate() {
         let sum = crc32c::checksum(chunk);
         out[4 * k..4 * k + 4].copy_from_slice(&sum.to_be_bytes());

@@ -14,8 +14,7 @@ pub struct ExtendedBlock {
     pub num_bytes: u64,
 }
 
-// Stays a macro, as `header_parts`: Rattle has no `impl Trait` as a result (it compiles and gets no proof), and as a named type the parts
-// would have to be written out in full.
+// A macro, as `header_parts`: Rattle has no `impl Trait` as a result, and the parts' type written out is long.
 macro_rules! block_parts {
     ($block:expr) => {
         Then(

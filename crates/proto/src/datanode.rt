@@ -14,7 +14,7 @@ use wire::find::find;
 pub struct Datanode {
     info: Fixed<256>,
     storage_id: Fixed<64>,
-    // Stays a number: any of 0 to 127 may be passed, and hdfs.proto lists fewer.
+    // A number: hdfs.proto lists fewer types than the 128 that may be passed.
     storage_type: u8,
     ghost typed: { storage_type < 2 ^ 7 },
 }
@@ -37,7 +37,6 @@ impl Datanode {
     ghost use Rattle.proto.specs.Messages.{octets_in, info_of, id_of, ip_of, port_of};
 
     /// The datanode that these octets are, where they, the storage's name and its type, 0 to 127, are in form.
-    // An Option: to be out of form is the one way to fail, and each caller has an error of its own for it.
     pub fn new(info: &[u8], storage_id: &[u8], storage_type: u8) -> Option<Datanode>
         ensures { elim result [ Some d ↦ (is_node info.now storage_id.now storage_type ≡ true) × (octets_in d.info ≡ info.now) × (octets_in d.storage_id ≡ storage_id.now) × (d.storage_type ≡ storage_type) | None ↦ is_node info.now storage_id.now storage_type ≡ false ] }
     {

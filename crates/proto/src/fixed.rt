@@ -4,7 +4,7 @@ ghost use Rattle.std.specs.Prelude.{◌≡◌, ◌<◌, ◌≤◌, length, take,
 use std::error::Error;
 use std::fmt;
 
-/// At most `N` octets: the first `len` of `octets`. Stays a buffer with its length: it is copied freely, and nothing is allocated.
+/// At most `N` octets: the first `len` of `octets`. It is copied freely, and nothing is allocated.
 #[derive(Clone, Copy)]
 pub struct Fixed<const N: usize> {
     octets: [u8; N],

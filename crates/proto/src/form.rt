@@ -53,7 +53,6 @@ impl Kind {
 
 impl Rule {
     // The place past the field of this rule: `at` itself where an optional one is absent.
-    // Answers a place, as `read_field` does: the next rule goes on there, and how long the field is follows from the two places.
     fn past(self, input: &[u8], at: usize) -> Option<usize>
         ensures { result ≡ rule_at self at input.now }
     {
@@ -67,7 +66,7 @@ impl Rule {
         (field.is_shortest(next - at) && self.kind.fits(field)).then_some(next)
     }
 
-    // A function, since a rule can be absent in two ways. Answers a place, as `past` does for both.
+    // The place past a field that is not there, if it may be absent.
     fn absent(self, at: usize) -> Option<usize>
         ensures { result ≡ absent self at }
     {
@@ -80,7 +79,7 @@ pub fn conforms(rules: &[Rule], input: &[u8]) -> bool
     ensures { result ≡ form_of rules.now input.now }
 {
     let mut at = 0;
-    // Stays a loop: of `try_fold` only the calls of its closure are known, and not that each began where the one before it ended.
+    // No `try_fold`: of it a proof knows the calls of its closure, and not that each began where the one before it ended.
     for rule in rules {
         let Some(next) = rule.past(input, at) else {
             return false;

@@ -15,7 +15,6 @@ pub struct Token {
 
 impl Token {
     /// No token: that of a writer which never opened, and shows it to nobody.
-    // No Option in the writer: an open one always has a token, and only that of a refused opening, closed for good, has this one.
     pub fn none() -> Token
         ensures { octets_in result.message ≡ [] }
     {
@@ -25,7 +24,6 @@ impl Token {
     }
 
     /// The token that these octets are, where they are one in form.
-    // An Option: to be out of form is the one way to fail, and each caller has an error of its own for it.
     pub fn new(message: &[u8]) -> Option<Token>
         ensures { elim result [ Some t ↦ (is_token message.now ≡ true) × (octets_in t.message ≡ message.now) | None ↦ is_token message.now ≡ false ] }
     {

@@ -4,7 +4,7 @@ use native.Mathlib.Nat.{div-div-eq-div-mul}
 use Rattle.std.specs.Int.Digits.{number_from_digits}
 use Rattle.std.proofs.lemmas.Int.Digits.{number_push}
 use Rattle.std.proofs.lemmas.Nat.{pow-add}
-use Rattle.std.proofs.lemmas.List.{append_assoc, append-nil, length-append, take_at, drop_at, take_more}
+use Rattle.std.proofs.lemmas.List.{append_assoc, length-append, take_at, drop_at}
 use denote.Param.Members.{Mut}
 use Rattle.std.specs.List.{flat_map}
 use Rattle.std.specs.Fn.{Called}
@@ -30,13 +30,6 @@ number_big (suc n) x h =
     number_push 256 (big n (x / 256)) (x % 256) ∙ ap (λ z. z * 256 + x % 256) (number_big n (x / 256) l) ∙ omega arith
 
 -- numbers one after another
-bigs_push : (n : ℕ) (xs : List ℕ) (x : ℕ) → bigs n (xs ++ x ∷ []) ≡ bigs n xs ++ big n x
-bigs_push n [] x = append-nil (big n x)
-bigs_push n (y ∷ xs) x = ap (λ z. big n y ++ z) (bigs_push n xs x) ∙ sym (append_assoc (big n y) (bigs n xs) (big n x))
-
-pub bigs_more : (n : ℕ) (xs : List ℕ) (i : ℕ) → i < length xs → bigs n (take i xs) ++ big n (get_or xs i 0) ≡ bigs n (take (i + 1) xs)
-bigs_more n xs i h = sym (ap (bigs n) (take_more xs i 0 h) ∙ bigs_push n (take i xs) (get_or xs i 0))
-
 pub length_bigs : (n : ℕ) (xs : List ℕ) → length (bigs n xs) ≡ n * length xs
 length_bigs n [] = omega arith
 length_bigs n (x ∷ xs) = length-append (big n x) (bigs n xs) ∙ omega (arith, length_big n x, length_bigs n xs, mul-suc n (length xs))

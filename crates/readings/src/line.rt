@@ -71,7 +71,7 @@ fn numbers(line: &[u8]) -> Result<[u64; 19], LineError>
 {
     let mut values = [0u64; 19];
     let mut at = 0;
-    // Stays by places: of what is written through `iter_mut` beside another iterator a proof knows the length alone.
+    // By places: of what is written through `iter_mut` beside another iterator a proof knows the length alone.
     for (i, slot) in SLOTS.iter().enumerate() {
         let (value, next) = read_slot(line, at, *slot)?;
         values[i] = value;

@@ -80,7 +80,7 @@ impl fmt::Display for LineError {
 }
 
 /// The number whose digits begin at `at`, and the place past them.
-// Goes by places, as the two below: a fault is told by its column.
+// It takes and answers places, as the two below: a fault is told by its column.
 pub(crate) fn number(line: &[u8], at: usize, limit: u64) -> Result<(u64, usize), LineError>
     requires { at ≤ length line.now }
     ensures value { result ≡ number_at limit at line.now }
@@ -88,7 +88,6 @@ pub(crate) fn number(line: &[u8], at: usize, limit: u64) -> Result<(u64, usize),
 {
     let mut value = 0u64;
     let mut next = at;
-    // Stays a loop: one pass finds where the digits end, and the first of them that passes the limit.
     while next < line.len() && line[next].is_ascii_digit() {
         let digit = u64::from(line[next] - b'0');
         if value > limit / 10 || digit > limit - 10 * value {

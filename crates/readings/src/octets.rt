@@ -6,8 +6,7 @@ ghost use Rattle.readings.specs.Record.{octets_of, reading_of};
 use crate::reading::{RECORD_LEN, Reading};
 use std::array;
 
-// The octets from `at` on, as many as the type says. No public helper for all crates: it could not ask that the octets are there, and
-// would answer an Option that is excluded here.
+// The octets from `at` on, as many as the type says.
 fn array_at<const N: usize>(octets: &[u8; RECORD_LEN], at: usize) -> &[u8; N]
     requires { at + N ≤ 52 }
     ensures { result.now ≡ take N (drop at octets.now) }
@@ -15,7 +14,7 @@ fn array_at<const N: usize>(octets: &[u8; RECORD_LEN], at: usize) -> &[u8; N]
     octets[at..].first_chunk().unwrap()
 }
 
-// Stay two functions beside `to_be_bytes`: what is read back needs each number within its type, which they say.
+// These two say besides that a number is within its type, which its reading back needs.
 fn four_octets(value: u32) -> [u8; 4]
     ensures written { result ≡ big 4 value }
     ensures fits { value < 2 ^ 32 }
@@ -44,7 +43,7 @@ impl Reading {
     }
 
     /// The reading in 52 octets, and none in fewer or more.
-    // An Option: another length than 52 is the one way to fail, since any 52 octets are a reading.
+    // Any 52 octets are a reading.
     pub fn from_record(bytes: &[u8]) -> Option<Reading>
         ensures { result ≡ reading_of bytes.now }
     {

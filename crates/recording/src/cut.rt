@@ -4,7 +4,6 @@ ghost use Rattle.recording.specs.Cut.{packet_count, packet_at, packets_joined};
 
 /// How many packets of at most `capacity` bytes carry the block: their data joined are the block's bytes.
 /// With a capacity of 0 there are none.
-// By number, not by `chunks`: that the packets' data joined are the block is said of packet `k`, and a capacity of 0 has an answer too.
 pub fn packet_count(block: &[u8], capacity: usize) -> usize
     ensures value { result ≡ packet_count capacity (length block.now) }
     ensures whole { 0 < capacity → packets_joined capacity result block.now ≡ block.now }

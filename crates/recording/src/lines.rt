@@ -3,7 +3,6 @@ ghost use Rattle.std.specs.Prelude.{◌≡◌, ◌+◌, ◌≤◌, ◌==◌, len
 ghost use Rattle.recording.specs.Lines.{line_of};
 
 // Where the first newline stands.
-// Answers a position, as the library's `position`: the line is cut there.
 fn newline(text: &[u8]) -> Option<usize>
     ensures { result ≡ position (λ x. x == 10) text.now }
 {

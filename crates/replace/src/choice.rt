@@ -27,7 +27,6 @@ impl fmt::Display for NoChoice {
 impl Error for NoChoice {}
 
 // Two datanodes are the same where they have the same address: ip and port.
-// Stays a function: it compares two parts of a datanode, where `==` would compare them all.
 fn same_address(a: &Datanode, b: &Datanode) -> bool
     ensures { result ≡ same_address a.now b.now }
 {
@@ -42,7 +41,6 @@ pub fn any_same(nodes: &[Datanode], node: &Datanode) -> bool
 }
 
 /// The position of the first datanode of `list` whose ip and port none of `old` has.
-// Answers a position: the source is found beside it.
 pub fn first_new(list: &[Datanode], old: &[Datanode]) -> Option<usize>
     ensures { result ≡ first_new 0 list.now old.now }
 {
@@ -50,7 +48,6 @@ pub fn first_new(list: &[Datanode], old: &[Datanode]) -> Option<usize>
 }
 
 /// The position of the new datanode and that of its source, which is the one before it, or position 1 where it is the first.
-// Answers positions and no datanodes: a recovery tells its caller where in the namenode's list the two stand.
 pub fn choose(list: &[Datanode], old: &[Datanode]) -> Result<(usize, usize), NoChoice>
     ensures { result ≡ choice_of list.now old.now }
 {

@@ -23,7 +23,6 @@ enum Key {
 }
 
 // The setting of that name, letter for letter.
-// Stays a function: a `FromStr` would be this match too, with an error type besides, since another name is no error to `set`.
 fn key_of(name: &str) -> Option<Key>
     ensures { result ≡ key_of name.now }
 {
@@ -36,7 +35,6 @@ fn key_of(name: &str) -> Option<Key>
 }
 
 // A switch is on at `true` alone, in letters of either case.
-// Stays a function: `bool` is read from no other word than `true` and `false`, in small letters.
 fn is_true(value: &str) -> bool
     ensures { result ≡ is_true value.now }
 {

@@ -46,7 +46,6 @@ impl fmt::Display for AskError {
 impl Error for AskError {}
 
 /// Asks the link for its next answer and judges it, if one has come. It stands at the front of `answer`, which stays as it was where none came.
-// The link and the answer's buffer stay two, as the link's own calls take them: a struct of both would be taken apart here at once.
 pub fn ask<L: Link>(link: &mut L, answer: &mut [u8]) -> Result<Option<Verdict>, AskError>
     ensures { Hears L.Link link.old answer.old answer.new link.new result }
 {

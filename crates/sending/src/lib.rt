@@ -1,4 +1,4 @@
-//! A packet on its way: framed, put on a link, and its answer asked for and judged.
+//! The two steps over a link: a packet framed and put, and an answer asked for and judged.
 #![tactic(auto)]
 
 pub mod ask;

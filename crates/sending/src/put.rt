@@ -6,7 +6,6 @@ use chain::link::{Link, LinkLost};
 use packet::frame::{WritePacket, write_frame};
 
 /// Writes the packet's frame, which fits, to the front of `frame` and puts it on the link.
-// The chunk size stands beside the packet: a packet that is read from a frame has none, since no frame says it.
 pub fn put_packet<L: Link>(
     link: &mut L,
     packet: WritePacket<'_>,

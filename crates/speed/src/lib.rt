@@ -31,7 +31,7 @@ pub extern "C" fn speed_sums_match(sums: &[u8], data: &[u8], chunk_size: u32) ->
 
 /// Writes the frame of a packet to the front of `buf`, with the sums of its chunks, and says how many octets it took.
 /// No frame is empty: 0 says that it does not fit, and that `buf` is as it was.
-// A 0 and no Option, and the packet's parts one by one: C is to call this, and knows the form of numbers and slices alone.
+// C calls this: it has the form of numbers and slices alone.
 #[unsafe(no_mangle)]
 pub extern "C" fn speed_write_frame(
     buf: &mut [u8],

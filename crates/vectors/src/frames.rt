@@ -18,14 +18,12 @@ fn writes(
     Ok(end == Some(frame.len()) && buf.as_slice() == frame)
 }
 
-// Whether these octets are read as the packet, with the sums of its data. The recorder has one alike: the two programs share no crate
-// but those under test.
+// Whether these octets are read as the packet, with the sums of its data.
 fn reads(frame: &[u8], packet: WritePacket<'_>, chunk_size: u32) -> bool {
     read_frame(frame).is_some_and(|read| read.packet == packet
         && sums_match(read.sums, packet.data, chunk_size))
 }
 
-// Stays a function: neither FromStr nor `bool` is of this crate.
 fn is_last(word: &str) -> Result<bool, LineError> {
     match word {
         "last" => Ok(true),

@@ -5,7 +5,7 @@ ghost use Rattle.vectors.specs.Hex.{digit_of, octet_of};
 use crate::error::LineError;
 use std::alloc::Global;
 
-// The value of a digit, 0 to 9 or a to f. Not `to_digit`: digits in small letters alone are taken.
+// The value of a digit, 0 to 9 or a to f. Capital letters, which `to_digit` takes too, are none.
 fn digit(b: u8) -> Option<u8>
     ensures value { result ≡ digit_of b }
     ensures bound { elim result [ Some d ↦ d < 16 | None ↦ Unit {0} ] }

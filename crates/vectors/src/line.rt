@@ -9,7 +9,6 @@ pub fn run(heap: Global, line: &str) -> Result<Kind, LineError> {
     let words: Vec<&str> = line.split(' ').collect(heap)?;
     let (kind, rest) = words.as_slice().split_first().ok_or(LineError::Form)?;
     let kind = kind.parse()?;
-    // A match: the kinds are a closed set, with one call each.
     let agrees = match kind {
         Kind::Frame => frames::agrees(heap, rest)?,
         Kind::Write => write::agrees(heap, rest)?,

@@ -11,8 +11,6 @@ use std::alloc::Global;
 // So many octets hold every request.
 const REQUEST_LEN: usize = 4096;
 
-// Functions make the parts: neither FromStr nor a part's type is of this crate, and tokens and datanodes take memory besides.
-
 /// A text of at most 64 octets.
 pub fn text_of(text: &str) -> Result<Fixed<64>, LineError> {
     Ok(Fixed::try_from(text.as_bytes())?)
@@ -54,7 +52,6 @@ pub fn is_sent_as<R: Request>(request: &R, octets: &[u8]) -> bool {
 /// Datanodes, a word for each.
 pub fn nodes_of(heap: Global, words: &[&str]) -> Result<Vec<Datanode>, LineError> {
     let mut nodes = Vec::new(heap);
-    // A loop: each word may fail, by an error of its own.
     for word in words {
         nodes.push(node_of(heap, word)?)?;
     }

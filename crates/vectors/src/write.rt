@@ -29,7 +29,6 @@ struct Numbers {
     chunk_size: u32,
 }
 
-// Stays a function: neither FromStr nor the stage is of this crate.
 fn stage_of(word: &str) -> Result<Stage, LineError> {
     match word {
         "append" => Ok(Stage::SetupAppend),
@@ -57,7 +56,6 @@ impl TryFrom<&[&str]> for Numbers {
 }
 
 // Whether the octets are read as a set up by the numbers of the request.
-// Stays a function: `Setup` and `WriteBlock` are both of `request`, so that neither `From` nor `PartialEq` between them can be written here.
 fn reads(request: &[u8], write: &WriteBlock<'_>) -> bool {
     let expected = Setup {
         stage: u64::from(write.stage),

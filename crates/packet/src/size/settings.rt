@@ -39,7 +39,7 @@ impl Error for SizeError {}
 
 impl PacketSize {
     /// Accepts the two sizes, or says which is refused. A packet size of 0 leaves it open: a packet then has one chunk.
-    // No Option for the 0: it is HDFS's own way to leave the size open.
+    // The 0 is HDFS's own way to leave the size open.
     pub fn new(chunk_size: u32, packet_size: u32) -> Result<PacketSize, SizeError>
         ensures { settings result ≡ settings_of 4 chunk_size packet_size }
     {
