@@ -1,3 +1,4 @@
+pub mod Counted
 pub mod Judges
 pub mod Positions
 pub mod Tallies

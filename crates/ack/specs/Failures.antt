@@ -1,6 +1,6 @@
 -- Which nodes of a pipeline failed, by the status codes that they replied. Assumes nothing.
-use Rattle.std.specs.Prelude.{ℕ, ◌+◌, ◌%◌, ◌^◌, Bool, false, cond, ◌||◌, List, [], ◌∷◌, map, length, ◌==◌, nat_lt}
-use Rattle.std.specs.List.{range_with_len}
+use Rattle.std.specs.Prelude.{ℕ, ◌+◌, ◌%◌, ◌^◌, ◌≤◌, Bool, false, cond, ◌||◌, List, [], ◌∷◌, map, length, ◌==◌, nat_lt}
+use Rattle.std.specs.List.{count_by, range_with_len}
 use Rattle.ack.specs.declared.tally.FailedNodes.{FailedNodes}
 
 -- an enum is the low 32 bits of its varint, and the statuses of datatransfer.proto are 0 to 13. Others are left out
@@ -28,3 +28,7 @@ nodes_at xs = record { positions = map (has xs) (range_with_len 0 8); count = le
 
 unfoldable pub failed_nodes : List ℕ → FailedNodes
 failed_nodes replies = nodes_at (failures 0 (known replies))
+
+-- no more positions are marked than are counted
+abbrev pub IsCounted : FailedNodes → Type 0
+IsCounted f = count_by (λ b. b) f.positions ≤ f.count

@@ -1,6 +1,6 @@
 -- A broken pipeline rebuilt, stage by stage. What each stage came to decides whether the next one follows. Assumes
 -- nothing.
-use Rattle.std.specs.Prelude.{◌≡◌, ℕ, ◌≤◌, Bool, true, false, if◌then◌else◌, List, length, Some, None, Ok, Err, Option, Result, ◌==◌, nat_le}
+use Rattle.std.specs.Prelude.{◌≡◌, ℕ, ◌≤◌, Bool, true, false, if◌then◌else◌, List, length, Some, None, Ok, Err, Option, Result, nat_le}
 use Rattle.proto.specs.declared.datanode.Datanode.{Datanode}
 use Rattle.proto.specs.declared.token.Token.{Token}
 use Rattle.replace.specs.Decision.{should_replace}
@@ -29,12 +29,11 @@ left_of v = survivors (failed_on v.state).positions v.nodes
 abbrev pub gone_of : View → List Datanode
 gone_of v = failed_of (failed_on v.state).positions v.nodes
 
--- no datanode is left, or a position lies past the pipeline
+-- as many failed as there are datanodes, or more; or a position lies past the pipeline
 abbrev pub beyond : View → Option Refusal
 beyond v =
     if nat_le (length v.nodes) (failed_on v.state).count then Some refusal.AllFailed else
-    (if nat_le (length v.nodes) (failed_on v.state).highest then Some refusal.PastPipeline else
-    (if length (left_of v) == 0 then Some refusal.AllFailed else None))
+    (if nat_le (length v.nodes) (failed_on v.state).highest then Some refusal.PastPipeline else None)
 
 -- where there is no such refusal, those that are left, of whom there are some, and those that are gone
 abbrev pub Ready : Option Refusal → View → List Datanode → List Datanode → Type 0

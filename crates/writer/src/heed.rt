@@ -1,5 +1,8 @@
 //! An answer heeded.
 ghost use Rattle.std.specs.Prelude.{◌≡◌, ◌<◌, true};
+ghost use Rattle.ack.specs.declared.ack.Verdict.TheVariants.{Failed};
+ghost use Rattle.ack.specs.declared.tally.FailedNodes.{FailedNodes};
+ghost use Rattle.ack.specs.Failures.{IsCounted};
 ghost use Rattle.writer.specs.declared.admit.Call.TheVariants as call;
 ghost use Rattle.writer.specs.declared.state.kind.State.TheVariants.{Complete, Closed};
 ghost use Rattle.writer.specs.Admits.{refusal_for, lengths_of};
@@ -127,7 +130,8 @@ impl Writer {
 
     // Does what was decided.
     fn hear(&mut self, heard: Result<Option<Verdict>, AskError>) -> Result<Heeded, Refusal>
-        requires { listens self.old.state ≡ true }
+        requires listens { listens self.old.state ≡ true }
+        requires counted { (f : FailedNodes) → heard ≡ Ok (Some (Failed f)) → IsCounted f }
         ensures result { result ≡ answer_of (decided (view_of self.old) heard) }
         ensures view { view_of self.new ≡ after (view_of self.old) (decided (view_of self.old) heard) }
     {

@@ -54,9 +54,6 @@ impl Writer {
             &mut self.chosen,
             &mut self.gone,
         );
-        if self.chosen.rows.len() == 0 {
-            return Err(Refusal::AllFailed);
-        }
         Ok(())
     }
 

@@ -1,9 +1,16 @@
-use Rattle.std.proofs.Common.{ap, ◌∙◌}
-use Rattle.sending.specs.Asking.{Heard}
+use Rattle.std.proofs.Common.{◌≡◌, Some, Ok, ap, ◌∙◌, subst}
+use Rattle.ack.specs.declared.ack.Verdict.TheVariants.{Failed}
+use Rattle.ack.proofs.Counted.{verdict_counted}
+use Rattle.sending.specs.Asking.{Heard, Hears}
 use Rattle.sending.proofs.Coming.{comes}
 use Rattle.writer.specs.Views.{view_of}
 use Rattle.writer.specs.Heeding.{decided, answer_of, after}
 use Rattle.writer.proofs.state.Writer.ask_link.Goals as goal
+
+pub hear-requires-clause-counted : goal.hear-requires-clause-counted
+hear-requires-clause-counted g c f e =
+    let said = subst (Hears g.L.Link c.args.link.now c.args.answer.now c.ask-heard.new.answer c.ask-heard.new.link) e c.ask-heard.ensures in
+    verdict_counted said.message f said.is
 
 pub returns : goal.returns
 returns g c =

@@ -23,6 +23,7 @@ invariant_of-self c =
       ends = omega (arith, w.ends);
       limit = w.limit;
       done = w.done;
+      counted = w.counted;
       few = w.few;
       widths = w.widths;
     }
