@@ -65,7 +65,8 @@ module _ {L : Type 0} (acts : Link.Ghosts L) where
   Copies header nodes (Ok places) s r t = Copied header nodes places s r t
 
   -- a list in form is read, and a datanode of it chosen that none of the old ones is
-  pub record Chooses (block : ExtendedBlock) (client : Fixed 64) (old : List Datanode) (offer : Offer)
+  pub record Chooses (block : ExtendedBlock) (client : Fixed 64) (old : List Datanode)
+      (offer : Offer)
       (nodes : List Datanode) (s : ChannelView L) (r : Added) (t : ChannelView L) : Type 0 where
     pub rows : Rows offer.rows nodes
     pub header : ClientOperationHeader
@@ -82,18 +83,22 @@ module _ {L : Type 0} (acts : Link.Ghosts L) where
   abbrev pub Offers : ExtendedBlock → Fixed 64 → List Datanode → List Datanode → Option Offer
       → List Datanode → ChannelView L → Added → ChannelView L → Type 0
   Offers block client old table None nodes s r t = (r ≡ Err no.Namenode) × (t ≡ s) × (nodes ≡ table)
-  Offers block client old table (Some offer) nodes s r t = Listed block client old offer (in_form offer) nodes s r t
+  Offers block client old table (Some offer) nodes s r t =
+      Listed block client old offer (in_form offer) nodes s r t
 
 module _ {L N : Type 0} (acts : Link.Ghosts L) (asks : Namenode.Ghosts N) where
   -- the namenode was asked once, from n to m, and what followed is what came; the table has `nodes` in place of
   -- what it had
-  pub record Adds (block : ExtendedBlock) (client : Fixed 64) (old left gone table nodes : List Datanode)
+  pub record Adds (block : ExtendedBlock) (client : Fixed 64)
+      (old left gone table nodes : List Datanode)
       (s : ChannelView L) (n : N) (r : Added) (t : ChannelView L) (m : N) : Type 0 where
     pub came : Option Offer
-    pub asked : asks.lists n (record { size = block.num_bytes; survivors = left; failed = gone }) came m
+    pub asked : asks.lists n (record { size = block.num_bytes; survivors = left; failed = gone })
+        came m
     pub offers : Offers acts block client old table came nodes s r t
 
 -- the places of a datanode that was added, in a list of eight at most
 abbrev pub Within : List Datanode → Added → Type 0
-Within nodes (Ok places) = (length nodes ≤ 8) × (places.0 < length nodes) × (places.1 < length nodes)
+Within nodes (Ok places) =
+    (length nodes ≤ 8) × (places.0 < length nodes) × (places.1 < length nodes)
 Within nodes (Err why) = Unit {0}

@@ -28,7 +28,9 @@ rows_in_form (r ∷ rows) = row_in_form r && rows_in_form rows
 
 -- one to eight rows, each in form, and a token in form
 abbrev pub in_form : Offer → Bool
-in_form o = nat_le 1 (length o.rows) && (nat_le (length o.rows) 8 && (rows_in_form o.rows && is_token o.token))
+in_form o =
+    nat_le 1 (length o.rows)
+    && (nat_le (length o.rows) 8 && (rows_in_form o.rows && is_token o.token))
 
 -- what came of one row
 abbrev pub NodeRead : Row → Option Datanode → Type 0
@@ -42,5 +44,6 @@ RowsRead rows nodes false = rows_in_form rows ≡ false
 
 -- what came of the offer: its datanodes with its token, or nothing where it is not in form
 abbrev pub OfferRead : Offer → List Datanode → Option Token → Type 0
-OfferRead o nodes (Some token) = (in_form o ≡ true) × Rows o.rows nodes × (octets_in token.message ≡ o.token)
+OfferRead o nodes (Some token) =
+    (in_form o ≡ true) × Rows o.rows nodes × (octets_in token.message ≡ o.token)
 OfferRead o nodes None = in_form o ≡ false

@@ -15,7 +15,8 @@ use Rattle.pipeline.specs.Channels.{ChannelView}
 use Rattle.pipeline.specs.Replies.{Reply, Asked}
 
 -- the request for a pipeline of these datanodes, in their order, with these settings
-pub record Requests (wanted : SetupRequest) (pipeline : List Datanode) (message : WriteBlock) : Type 0 where
+pub record Requests (wanted : SetupRequest) (pipeline : List Datanode)
+    (message : WriteBlock) : Type 0 where
   pub header : message.header ≡ wanted.header
   pub stage : message.stage ≡ wanted.stage
   pub min : message.min_bytes ≡ wanted.min_bytes
@@ -49,5 +50,7 @@ module _ {L : Type 0} (acts : Link.Ghosts L) where
     pub asks : Requests wanted pipeline message
     pub long : length (octets_of message) ≤ length s.request
     pub sent : t.request ≡ octets_of message ++ drop (length (octets_of message)) s.request
-    pub reply : Asked (λ came. acts.sets s.link message.first.now (octets_of message) wanted.min_bytes came t.link)
+    pub reply : Asked
+        (λ came. acts.sets s.link message.first.now (octets_of message) wanted.min_bytes came
+          t.link)
         s.answer t.answer r

@@ -22,4 +22,6 @@ module _ {L : Type 0} (acts : Link.Ghosts L) where
     pub target : message.target.now ≡ new
     pub long : length (copy_octets message) ≤ length s.request
     pub sent : t.request ≡ copy_octets message ++ drop (length (copy_octets message)) s.request
-    pub reply : Asked (λ came. acts.transfers s.link source (copy_octets message) came t.link) s.answer t.answer r
+    pub reply : Asked
+        (λ came. acts.transfers s.link source (copy_octets message) came t.link)
+        s.answer t.answer r

@@ -92,7 +92,8 @@ impl<'a, L: Link> Channel<'a, L> {
         old: &[Datanode],
     ) -> Result<(usize, usize), NoDatanode>
         ensures acts {
-            Copies L.Link header.entry list.now (choice_of list.now old.now) (channel_view self.old) result
+            Copies L.Link header.entry list.now (choice_of list.now old.now)
+                (channel_view self.old) result
                 (channel_view self.new) }
         ensures same { SameLoans self.old self.new }
     {

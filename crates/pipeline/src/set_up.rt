@@ -71,7 +71,9 @@ impl<'a, L: Link> Channel<'a, L> {
         wanted: SetupRequest<'b>,
     ) -> Result<(), ReplyError>
         requires { (1 ≤ length nodes.now) × (length nodes.now ≤ 8) }
-        ensures acts { SetsUp L.Link wanted.entry nodes.now (channel_view self.old) result (channel_view self.new) }
+        ensures acts {
+            SetsUp L.Link wanted.entry nodes.now (channel_view self.old) result
+                (channel_view self.new) }
         ensures same { SameLoans self.old self.new }
     {
         send_set_up(self.link, nodes, wanted, self.request, self.answer)

@@ -23,7 +23,8 @@ fn send_transfer<'a, L: Link>(
 ) -> Result<(), ReplyError>
     requires { 4096 ≤ length request.old }
     ensures {
-        Transfers L.Link header.entry source.now target.now (channel_over link.old request.old answer.old) result
+        Transfers L.Link header.entry source.now target.now
+            (channel_over link.old request.old answer.old) result
             (channel_over link.new request.new answer.new) }
 {
     let message = TransferBlock { header, target };

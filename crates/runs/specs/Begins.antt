@@ -32,5 +32,6 @@ module _ {C N : Type 0} (acts : Link.Ghosts C) (seen : C → Seen) (entry : N �
     pub initial : length (seen link).kept ≡ o.initial_len
     pub stamp : (entry p.namenode).stamp ≡ o.stamp
     pub ids : (entry p.namenode).ids ≡ map id_of nodes
-    pub storages : (entry p.namenode).storages ≡ map (λ (d : Datanode). octets_in d.storage_id) nodes
+    pub storages : (entry p.namenode).storages
+        ≡ map (λ (d : Datanode). octets_in d.storage_id) nodes
     pub history : p.history ≡ begun (seen link).kept nodes

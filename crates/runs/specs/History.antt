@@ -18,7 +18,8 @@ pub record History : Type 0 where
   pub chain : List Datanode
 
 abbrev pub begun : List ℕ → List Datanode → History
-begun bytes nodes = record { initial = bytes; accepted = []; confirmed = []; answered = []; chain = nodes }
+begun bytes nodes =
+    record { initial = bytes; accepted = []; confirmed = []; answered = []; chain = nodes }
 
 -- a write counts the bytes that it took, which are the first ones
 abbrev pub wrote : History → List ℕ → Result Written Refusal → History

@@ -20,7 +20,9 @@ lasts ps = map (λ p. p.last) ps
 
 -- the kept bytes, the held packets by number and the packet being filled, joined, are the initial bytes and every accepted byte
 abbrev pub Whole : History → View → List ℕ → Seen → Type 0
-Whole h v store x = x.kept ++ (bytes_of (held_in v store (length x.kept)) ++ filling_in v store) ≡ h.initial ++ h.accepted
+Whole h v store x =
+    x.kept ++ (bytes_of (held_in v store (length x.kept)) ++ filling_in v store)
+    ≡ h.initial ++ h.accepted
 
 -- heed answers confirmed, or complete, exactly when a packet has left the pending ones
 abbrev pub Told : History → Type 0
@@ -46,5 +48,7 @@ module _ {C N : Type 0} (seen : C → Seen) (entry : N → Entry) where
   pub record Law (p : Point C N) : Type 0 where
     pub whole : Whole p.history (view_of p.writer) p.store (seen p.link)
     pub told : Told p.history
-    pub order : (b : ExtendedBlock) → closed (view_of p.writer) ≡ Ok b → Order p.history (seen p.link) b
-    pub enters : (b : ExtendedBlock) → closed (view_of p.writer) ≡ Ok b → Enters p.history (entry p.namenode) b
+    pub order : (b : ExtendedBlock) → closed (view_of p.writer) ≡ Ok b
+        → Order p.history (seen p.link) b
+    pub enters : (b : ExtendedBlock) → closed (view_of p.writer) ≡ Ok b
+        → Enters p.history (entry p.namenode) b

@@ -13,7 +13,8 @@ use Rattle.runs.specs.History.{History}
 use Rattle.runs.specs.Law.{Law}
 use Rattle.runs.specs.Runs.{Point, Run}
 
-module _ {C N : Type 0} (acts : Link.Ghosts C) (asks : Namenode.Ghosts N) (seen : C → Seen) (entry : N → Entry) where
+module _ {C N : Type 0} (acts : Link.Ghosts C) (asks : Namenode.Ghosts N) (seen : C → Seen)
+    (entry : N → Entry) where
   -- `after` is what is left, by what has happened then
   pub record Made (before : Point C N) (commands : List Command) (places : List (Option Outcome))
       (after : History → Point C N) (told : List (Option Outcome)) : Type 0 where
@@ -23,5 +24,8 @@ module _ {C N : Type 0} (acts : Link.Ghosts C) (asks : Namenode.Ghosts N) (seen 
     pub run : Run acts asks seen (take (length outcomes) commands) before outcomes (after history)
     pub tells : told ≡ map Some outcomes ++ drop (length outcomes) places
     -- whatever calls led from an opening to where these began
-    pub lawful : (opening : Opening) (link : C) (p : Point C N) (earlier : List Command) (heard : List Outcome)
-        → Begins acts seen entry opening link p → Run acts asks seen earlier p heard before → Law seen entry (after history)
+    pub lawful : (opening : Opening) (link : C) (p : Point C N) (earlier : List Command)
+        (heard : List Outcome)
+        → Begins acts seen entry opening link p
+        → Run acts asks seen earlier p heard before
+        → Law seen entry (after history)

@@ -18,7 +18,8 @@ heard_of (Err e) = Err (Undecodable e)
 
 module _ {L : Type 0} (acts : Link.Ghosts L) where
   -- an answer came, stands at the front of the buffer, and is judged so
-  pub record Says (a : L) (before after : List ℕ) (b : L) (said : Result Verdict DecodeError) : Type 0 where
+  pub record Says (a : L) (before after : List ℕ) (b : L)
+      (said : Result Verdict DecodeError) : Type 0 where
     pub message : List ℕ
     pub long : ℕ
     pub front : Front message before after long

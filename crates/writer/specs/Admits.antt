@@ -55,4 +55,5 @@ refusal_for v c l = or_else (by_state v.state c) (by_room v.terms l)
 
 abbrev pub lengths_of : List ℕ → List ℕ → List ℕ → List ℕ → Lengths
 lengths_of store frame request answer =
-    record { store = length store; frame = length frame; request = length request; answer = length answer }
+    record {
+      store = length store; frame = length frame; request = length request; answer = length answer }

@@ -25,12 +25,15 @@ was_put false = beat.Lost
 module _ {L : Type 0} (acts : Link.Ghosts L) where
   abbrev pub beat_by : Streamer L → ℕ → Bool → L → Streamer L
   beat_by p now sent c = record p {
-    view = if sent then beaten_at now p.view else broken_by (Put (2 ^ 64 - 1)) (beaten_at now p.view);
+    view =
+        if sent then beaten_at now p.view
+        else broken_by (Put (2 ^ 64 - 1)) (beaten_at now p.view);
     frame = over (heartbeat p.view) p.frame;
     link = c;
   }
 
-  pub record PutsBeat (now : ℕ) (p : Streamer L) (r : Result Beat Refusal) (q : Streamer L) : Type 0 where
+  pub record PutsBeat (now : ℕ) (p : Streamer L) (r : Result Beat Refusal)
+      (q : Streamer L) : Type 0 where
     pub sent : Bool
     pub acted : acts.puts p.link (octets_of (heartbeat p.view)) sent q.link
     pub result : r ≡ Ok (was_put sent)

@@ -13,7 +13,8 @@ pub record Streamer (L : Type 0) : Type 0 where
   pub link : L
 
 abbrev pub streamer_of : {L : Type 0} → Writer → List ℕ → List ℕ → L → Streamer L
-streamer_of w store frame link = record { view = view_of w; store = store; frame = frame; link = link }
+streamer_of w store frame link =
+    record { view = view_of w; store = store; frame = frame; link = link }
 
 -- heed: the writer with the link and the answer buffer
 pub record Listener (L : Type 0) : Type 0 where
@@ -34,7 +35,8 @@ pub record Site (L N : Type 0) : Type 0 where
 
 abbrev pub site_of : {L N : Type 0} → Writer → List ℕ → List ℕ → ChannelView L → N → Site L N
 site_of w store frame channel namenode =
-    record { view = view_of w; store = store; frame = frame; channel = channel; namenode = namenode }
+    record {
+      view = view_of w; store = store; frame = frame; channel = channel; namenode = namenode }
 
 -- a refused call answers why and leaves what it works on; any other acts
 abbrev pub UnlessRefused : {S A : Type 0} → Option Refusal → (S → Result A Refusal → S → Type 0)

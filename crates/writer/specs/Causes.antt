@@ -6,7 +6,10 @@ use Rattle.writer.specs.declared.cause.Cause.TheVariants.{Put, Link, Replies, De
 
 -- the first one alone
 abbrev pub first_failed : FailedNodes
-first_failed = record { positions = true ∷ false ∷ false ∷ false ∷ false ∷ false ∷ false ∷ false ∷ []; count = 1; highest = 0 }
+first_failed =
+    record {
+      positions = true ∷ false ∷ false ∷ false ∷ false ∷ false ∷ false ∷ false ∷ [];
+      count = 1; highest = 0 }
 
 abbrev pub failed_in : Cause → FailedNodes
 failed_in (Put n) = first_failed

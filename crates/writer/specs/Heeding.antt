@@ -64,7 +64,8 @@ after v (decision.Confirm n) = without_first v
 after v (decision.Complete n) = with_state Complete (without_first v)
 
 -- the link was asked once; result, writer and buffer are what came of it
-pub record Heeds {L : Type 0} (acts : Link.Ghosts L) (s : Listener L) (r : Result Heeded Refusal) (t : Listener L) : Type 0 where
+pub record Heeds {L : Type 0} (acts : Link.Ghosts L) (s : Listener L) (r : Result Heeded Refusal)
+    (t : Listener L) : Type 0 where
   pub came : Came
   pub acted : acts.nexts s.link came t.link
   pub result : r ≡ answer_of (decided s.view (heard_in came))

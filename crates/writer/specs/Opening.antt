@@ -42,13 +42,15 @@ rows_in o = rows_of o.infos.now o.storage_ids.now o.storage_types.now
 
 abbrev pub by_length : Opening → Option Refusal
 by_length o =
-    if nat_lt o.block_size o.initial_len || nat_le (2 ^ 63) o.block_size then Some refusal.Length else None
+    if nat_lt o.block_size o.initial_len || nat_le (2 ^ 63) o.block_size
+    then Some refusal.Length else None
 
 -- one to eight datanodes, and as many names and types
 abbrev pub by_count : Opening → Option Refusal
 by_count o =
     let count = length o.infos.now in
-    if nat_le 1 count && (nat_le count 8 && (length o.storage_ids.now == count && length o.storage_types.now == count))
+    if nat_le 1 count && (nat_le count 8
+      && (length o.storage_ids.now == count && length o.storage_types.now == count))
     then None else Some refusal.Nodes
 
 abbrev pub by_texts : Opening → Bool
@@ -56,7 +58,8 @@ by_texts o = is_text 255 o.path.now && (is_text 64 o.pool_id.now && is_text 64 o
 
 abbrev pub by_form : Opening → Option Refusal
 by_form o =
-    if rows_in_form (rows_in o) && (is_token o.token.now && by_texts o) then None else Some refusal.Form
+    if rows_in_form (rows_in o) && (is_token o.token.now && by_texts o)
+    then None else Some refusal.Form
 
 abbrev pub capacity_in : Opening → ℕ
 capacity_in o = capacity_of 4 o.chunk_size o.packet_size
@@ -64,7 +67,8 @@ capacity_in o = capacity_of 4 o.chunk_size o.packet_size
 abbrev pub by_buffers : Opening → Lengths → Option Refusal
 by_buffers o l =
     if nat_le (3 * capacity_in o) l.store then
-    (if nat_le (frame_capacity_of 4 o.chunk_size o.packet_size) l.frame && (nat_le 4096 l.request && nat_le 4096 l.answer)
+    (if nat_le (frame_capacity_of 4 o.chunk_size o.packet_size) l.frame
+        && (nat_le 4096 l.request && nat_le 4096 l.answer)
       then None else Some refusal.Buffer)
     else Some refusal.Store
 
@@ -78,7 +82,8 @@ after_sizes (Ok sizes) s = s
 
 -- where the sizes are accepted, in this order
 abbrev pub later_refusal : Opening → Lengths → Option Refusal
-later_refusal o l = or_else (by_length o) (or_else (by_count o) (or_else (by_form o) (by_buffers o l)))
+later_refusal o l =
+    or_else (by_length o) (or_else (by_count o) (or_else (by_form o) (by_buffers o l)))
 
 abbrev pub open_refusal : Opening → Lengths → Option Refusal
 open_refusal o l = after_sizes (settings_of 4 o.chunk_size o.packet_size) (later_refusal o l)
@@ -102,7 +107,8 @@ pub record TermsFor (o : Opening) (l : Lengths) (t : Terms) : Type 0 where
   pub client : octets_in t.client_name ≡ o.client_name.now
 
 -- a writer that has taken nothing yet
-pub record Fresh (o : Opening) (l : Lengths) (shown : Token) (chain : List Datanode) (w : View) : Type 0 where
+pub record Fresh (o : Opening) (l : Lengths) (shown : Token) (chain : List Datanode)
+    (w : View) : Type 0 where
   pub terms : TermsFor o l w.terms
   pub state : w.state ≡ Streaming
   pub stamp : w.stamp ≡ o.stamp
@@ -123,9 +129,12 @@ pub record Shut (w : View) : Type 0 where
 
 abbrev pub block_for : Opening → Terms → ExtendedBlock
 block_for o t =
-    record { pool_id = t.pool_id; block_id = o.block_id; generation_stamp = o.stamp; num_bytes = o.initial_len }
+    record {
+      pool_id = t.pool_id; block_id = o.block_id;
+      generation_stamp = o.stamp; num_bytes = o.initial_len }
 
-abbrev pub Started : Reply → Opening → Lengths → Token → List Datanode → Option Refusal → View → Type 0
+abbrev pub Started : Reply → Opening → Lengths → Token → List Datanode → Option Refusal → View
+    → Type 0
 Started (Ok _) o l token nodes r w = (r ≡ None) × Fresh o l token nodes w
 Started (Err why) o l token nodes r w = (r ≡ Some (refusal.SetUp why)) × Shut w
 
@@ -153,6 +162,7 @@ module _ {L : Type 0} (acts : Link.Ghosts L) where
     pub follows : Started reply o l token nodes r w
 
   -- a refusal before the set up leaves link and buffers
-  abbrev pub Opens : Option Refusal → Opening → Lengths → ChannelView L → Option Refusal → View → ChannelView L → Type 0
+  abbrev pub Opens : Option Refusal → Opening → Lengths → ChannelView L → Option Refusal → View
+      → ChannelView L → Type 0
   Opens (Some refusal) o l s r w t = (r ≡ Some refusal) × Shut w × (t ≡ s)
   Opens None o l s r w t = Starts o l s r w t

@@ -33,7 +33,8 @@ gone_of v = failed_of (failed_on v.state).positions v.nodes
 abbrev pub beyond : View → Option Refusal
 beyond v =
     if nat_le (length v.nodes) (failed_on v.state).count then Some refusal.AllFailed else
-    (if nat_le (length v.nodes) (failed_on v.state).highest then Some refusal.PastPipeline else None)
+    (if nat_le (length v.nodes) (failed_on v.state).highest then Some refusal.PastPipeline else
+    None)
 
 -- where there is no such refusal, those that are left, of whom there are some, and those that are gone
 abbrev pub Ready : Option Refusal → View → List Datanode → List Datanode → Type 0
@@ -42,7 +43,9 @@ Ready None v left gone = (left ≡ left_of v) × (gone ≡ gone_of v) × (1 ≤ 
 
 -- the policy, by those that are left and the length that the block was opened with
 abbrev pub wants : View → Bool
-wants v = should_replace v.terms.replace.policy v.terms.replication (length (left_of v)) v.terms.initial_len
+wants v =
+    should_replace v.terms.replace.policy v.terms.replication (length (left_of v))
+    v.terms.initial_len
 
 -- the positions of a new datanode and its source; or none, where the policy wants none or best effort goes on without
 abbrev pub Choice : Type 0
@@ -65,12 +68,14 @@ module _ {L N : Type 0} (acts : Link.Ghosts L) (asks : Namenode.Ghosts N) where
     pub table : List Datanode
     pub list : List Datanode
     pub added : Added
-    pub adds : Adds acts asks (record_of v) v.terms.client_name v.nodes (left_of v) (gone_of v) table list s n added t m
+    pub adds : Adds acts asks (record_of v) v.terms.client_name
+        v.nodes (left_of v) (gone_of v) table list s n added t m
     pub result : r ≡ choice_on v.terms.replace.best_effort added
     pub is : chain ≡ chain_on added (left_of v) list
 
   -- the new pipeline
-  abbrev pub ChoosesIf : Bool → View → ChannelView L → N → Choice → List Datanode → ChannelView L → N → Type 0
+  abbrev pub ChoosesIf : Bool → View → ChannelView L → N → Choice → List Datanode → ChannelView L
+      → N → Type 0
   ChoosesIf true v s n r chain t m = Replaces v s n r chain t m
   ChoosesIf false v s n r chain t m = (r ≡ Ok None) × (chain ≡ left_of v) × (t ≡ s) × (m ≡ n)
 
@@ -78,12 +83,14 @@ module _ {L N : Type 0} (acts : Link.Ghosts L) (asks : Namenode.Ghosts N) where
   abbrev pub Ended : Refusal → Site L N → Result Recovered Refusal → Site L N → Type 0
   Ended why s r t = (r ≡ Err why) × (t ≡ record s { view = with_state Closed s.view })
 
-  abbrev pub AfterUpdate : Result Recovered Refusal → Site L N → Result Recovered Refusal → Site L N → Type 0
+  abbrev pub AfterUpdate : Result Recovered Refusal → Site L N → Result Recovered Refusal → Site L N
+      → Type 0
   AfterUpdate (Ok x) s r t = (r ≡ Ok x) × (t ≡ s)
   AfterUpdate (Err why) s r t = Ended why s r t
 
   -- set up: all held packets are put again, and the namenode is told
-  pub record Resumes (q : SetUp) (token : Token) (choice : Option (ℕ × ℕ)) (chain : List Datanode) (time : ℕ)
+  pub record Resumes (q : SetUp) (token : Token) (choice : Option (ℕ × ℕ)) (chain : List Datanode)
+      (time : ℕ)
       (s : Site L N) (r : Result Recovered Refusal) (t : Site L N) : Type 0 where
     pub replayed : Replayed
     pub frame : List ℕ
@@ -92,9 +99,12 @@ module _ {L N : Type 0} (acts : Link.Ghosts L) (asks : Namenode.Ghosts N) where
     pub told : Result Recovered Refusal
     pub view : View
     pub namenode : N
-    pub updates : UpdatesOn asks replayed token choice chain time s.view s.namenode told view namenode
+    pub updates : UpdatesOn asks replayed token choice chain time
+        s.view s.namenode told view namenode
     pub follows : AfterUpdate told
-        (record s { view = view; frame = frame; channel = record s.channel { link = link }; namenode = namenode }) r t
+        (record s {
+          view = view; frame = frame; channel = record s.channel { link = link };
+          namenode = namenode }) r t
 
   abbrev pub AfterSetUp : Result SetUp Refusal → Token → Option (ℕ × ℕ) → List Datanode → ℕ
       → Site L N → Result Recovered Refusal → Site L N → Type 0
@@ -102,7 +112,8 @@ module _ {L N : Type 0} (acts : Link.Ghosts L) (asks : Namenode.Ghosts N) where
   AfterSetUp (Err why) token choice chain time s r t = Ended why s r t
 
   -- stamped: the pipeline is set up
-  pub record Builds (q : Stamped) (token : Token) (choice : Option (ℕ × ℕ)) (chain : List Datanode) (time : ℕ)
+  pub record Builds (q : Stamped) (token : Token) (choice : Option (ℕ × ℕ)) (chain : List Datanode)
+      (time : ℕ)
       (s : Site L N) (r : Result Recovered Refusal) (t : Site L N) : Type 0 where
     pub set_up : Result SetUp Refusal
     pub channel : ChannelView L
@@ -122,20 +133,24 @@ module _ {L N : Type 0} (acts : Link.Ghosts L) (asks : Namenode.Ghosts N) where
     pub stamps : Stamps asks (least_of s.view) s.view.len s.namenode stamped namenode
     pub follows : AfterStamp stamped choice chain time (record s { namenode = namenode }) r t
 
-  abbrev pub AfterChoice : Choice → List Datanode → ℕ → Site L N → Result Recovered Refusal → Site L N → Type 0
+  abbrev pub AfterChoice : Choice → List Datanode → ℕ → Site L N → Result Recovered Refusal
+      → Site L N → Type 0
   AfterChoice (Ok choice) chain time s r t = AsksStamp choice chain time s r t
   AfterChoice (Err why) chain time s r t = Ended (refusal.Replacement why) s r t
 
   -- a pipeline is chosen
-  pub record Rebuilds (time : ℕ) (s : Site L N) (r : Result Recovered Refusal) (t : Site L N) : Type 0 where
+  pub record Rebuilds (time : ℕ) (s : Site L N) (r : Result Recovered Refusal)
+      (t : Site L N) : Type 0 where
     pub choice : Choice
     pub chain : List Datanode
     pub channel : ChannelView L
     pub namenode : N
     pub chooses : ChoosesIf (wants s.view) s.view s.channel s.namenode choice chain channel namenode
-    pub follows : AfterChoice choice chain time (record s { channel = channel; namenode = namenode }) r t
+    pub follows : AfterChoice choice chain time
+        (record s { channel = channel; namenode = namenode }) r t
 
-  abbrev pub IfSurvived : Option Refusal → ℕ → Site L N → Result Recovered Refusal → Site L N → Type 0
+  abbrev pub IfSurvived : Option Refusal → ℕ → Site L N → Result Recovered Refusal → Site L N
+      → Type 0
   IfSurvived (Some why) time s r t = Ended why s r t
   IfSurvived None time s r t = Rebuilds time s r t
 

@@ -8,8 +8,10 @@ module _ {L : Type 0} (acts : Link.Ghosts L) where
   -- the link after
   pub data Replays : List Packet → List ℕ → L → ℕ → Option ℕ → List ℕ → L → Type 0 where
     all : {frame : List ℕ} {a : L} → Replays [] frame a 0 None frame a
-    again : {p : Packet} {ps : List Packet} {frame frame' : List ℕ} {a b : L} {n : ℕ} {lost : Option ℕ} (m : L)
+    again : {p : Packet} {ps : List Packet} {frame frame' : List ℕ} {a b : L} {n : ℕ}
+        {lost : Option ℕ} (m : L)
         → acts.puts a (octets_of p) true m → Replays ps (over p frame) m n lost frame' b
         → Replays (p ∷ ps) frame a (n + 1) lost frame' b
     ends : {p : Packet} {ps : List Packet} {frame : List ℕ} {a b : L}
-        → acts.puts a (octets_of p) false b → Replays (p ∷ ps) frame a 0 (Some p.seqno) (over p frame) b
+        → acts.puts a (octets_of p) false b
+        → Replays (p ∷ ps) frame a 0 (Some p.seqno) (over p frame) b

@@ -45,12 +45,14 @@ pub record Settles (refused : Option Refusal) (o : Opening) (l : Lengths) (nodes
   pub some : 1 ≤ length nodes
   pub few : length nodes ≤ 8
 
-abbrev pub SettledBy : Option Refusal → Opening → Lengths → List Datanode → Result (Terms × Token) Refusal → Type 0
+abbrev pub SettledBy : Option Refusal → Opening → Lengths → List Datanode
+    → Result (Terms × Token) Refusal → Type 0
 SettledBy refused o l nodes (Ok x) = Settles refused o l nodes x.0 x.1
 SettledBy refused o l nodes (Err e) = refused ≡ Some e
 
 -- the sizes are accepted already
-abbrev pub SettledSized : Opening → Lengths → List Datanode → Result (Terms × Token) Refusal → Type 0
+abbrev pub SettledSized : Opening → Lengths → List Datanode → Result (Terms × Token) Refusal
+    → Type 0
 SettledSized o l nodes r = SettledBy (later_refusal o l) o l nodes r
 
 abbrev pub Settled : Opening → Lengths → List Datanode → Result (Terms × Token) Refusal → Type 0

@@ -8,7 +8,8 @@ capacity t = capacity_of 4 t.size.chunk t.size.packet
 
 -- the first packet of an append ends the chunk that was begun
 abbrev pub room_at : Terms → ℕ → ℕ
-room_at t n = if n == 0 then first_capacity_of 4 t.size.chunk t.size.packet t.initial_len else capacity t
+room_at t n =
+    if n == 0 then first_capacity_of 4 t.size.chunk t.size.packet t.initial_len else capacity t
 
 -- so many octets hold every frame
 abbrev pub frame_room : Terms → ℕ

@@ -29,7 +29,9 @@ use Rattle.writer.specs.Views.{View, chunk_of, held_in}
 -- a stamp counts where the token with it is in form
 abbrev pub TokenAs : Bool → ℕ → ℕ → List ℕ → Result (Stamped × Token) Refusal → Type 0
 TokenAs true least stamp octets r =
-    (token : Token) × ((octets_in token.message ≡ octets) × (r ≡ Ok (record { least = least; stamp = stamp }, token)))
+    (token : Token)
+        × ((octets_in token.message ≡ octets)
+        × (r ≡ Ok (record { least = least; stamp = stamp }, token)))
 TokenAs false least stamp octets r = r ≡ Err refusal.Stamp
 
 abbrev pub StampAs : Option (ℕ × List ℕ) → ℕ → Result (Stamped × Token) Refusal → Type 0
@@ -62,17 +64,20 @@ restored lost stamp token chain time v = record v {
 }
 
 abbrev pub recovered : Replayed → Option (ℕ × ℕ) → Recovered
-recovered q choice = record { choice = choice; stamp = q.stamp; replayed = q.replayed; put_lost = is_lost q.lost }
+recovered q choice =
+    record { choice = choice; stamp = q.stamp; replayed = q.replayed; put_lost = is_lost q.lost }
 
 module _ {N : Type 0} (asks : Namenode.Ghosts N) where
   -- from counted to stamped
-  pub record Stamps (least size : ℕ) (n : N) (r : Result (Stamped × Token) Refusal) (m : N) : Type 0 where
+  pub record Stamps (least size : ℕ) (n : N) (r : Result (Stamped × Token) Refusal)
+      (m : N) : Type 0 where
     pub came : Option (ℕ × List ℕ)
     pub acted : asks.stamps n size came m
     pub is : StampAs came least r
 
   -- from replayed to the end: the namenode is told, and where it accepts the writer goes on
-  pub record UpdatesOn (q : Replayed) (token : Token) (choice : Option (ℕ × ℕ)) (chain : List Datanode) (time : ℕ)
+  pub record UpdatesOn (q : Replayed) (token : Token) (choice : Option (ℕ × ℕ))
+      (chain : List Datanode) (time : ℕ)
       (v : View) (n : N) (r : Result Recovered Refusal) (w : View) (m : N) : Type 0 where
     pub accepted : Bool
     pub acted : asks.updates n (entry_for q.stamp v.len chain) accepted m

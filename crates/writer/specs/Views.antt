@@ -64,7 +64,9 @@ with_bytes m v = record v { len = v.len + m; filling = v.filling + m }
 -- the packet being filled is held, and the next begins
 abbrev pub with_held : View → View
 with_held v =
-    record v { count = v.count + 1; filling = 0; sizes = slice_set v.sizes (next_of v % v.terms.slots) v.filling }
+    record v {
+      count = v.count + 1; filling = 0;
+      sizes = slice_set v.sizes (next_of v % v.terms.slots) v.filling }
 
 -- the first held packet is held no more
 abbrev pub without_first : View → View
@@ -94,7 +96,8 @@ least_of v = v.len - waiting_of v - v.filling
 -- the held packets by number, the first at offset o
 abbrev pub held_in : View → List ℕ → ℕ → List Packet
 held_in v store o =
-    packets (chunk_of v) (capacity v.terms) v.terms.slots v.sizes store (ended v.state) v.count v.first o
+    packets (chunk_of v) (capacity v.terms) v.terms.slots v.sizes store (ended v.state)
+    v.count v.first o
 
 -- one of them, from its slot
 abbrev pub held_packet : View → List ℕ → ℕ → ℕ → Bool → Packet

@@ -58,20 +58,27 @@ module _ {L : Type 0} (acts : Link.Ghosts L) where
   abbrev pub Turns : List ℕ → Streamer L → Turned → Streamer L → Type 0
   Turns bytes p Stopped q = (turn_of p.view (length bytes) ≡ stop) × (q ≡ p)
   Turns bytes p (Poured n) q =
-      (turn_of p.view (length bytes) ≡ pour) × (n ≡ amount p.view (length bytes)) × (q ≡ poured p bytes)
+      (turn_of p.view (length bytes) ≡ pour) × (n ≡ amount p.view (length bytes))
+          × (q ≡ poured p bytes)
   Turns bytes p Handed q =
-      (turn_of p.view (length bytes) ≡ hand) × PutsOutgoing p true q.link × (q ≡ handed_over p true q.link)
+      (turn_of p.view (length bytes) ≡ hand) × PutsOutgoing p true q.link
+          × (q ≡ handed_over p true q.link)
   Turns bytes p Lost q =
-      (turn_of p.view (length bytes) ≡ hand) × PutsOutgoing p false q.link × (q ≡ handed_over p false q.link)
+      (turn_of p.view (length bytes) ≡ hand) × PutsOutgoing p false q.link
+          × (q ≡ handed_over p false q.link)
 
   -- turn by turn, until nothing can be done or a put is lost: how many bytes were taken, and whether a put was lost
   pub data Writes : Streamer L → List ℕ → ℕ → Bool → Streamer L → Type 0 where
-    stops : {p : Streamer L} {bytes : List ℕ} → turn_of p.view (length bytes) ≡ stop → Writes p bytes 0 false p
-    pours : {p q : Streamer L} {bytes : List ℕ} {n : ℕ} {lost : Bool} → turn_of p.view (length bytes) ≡ pour
+    stops : {p : Streamer L} {bytes : List ℕ} → turn_of p.view (length bytes) ≡ stop
+        → Writes p bytes 0 false p
+    pours : {p q : Streamer L} {bytes : List ℕ} {n : ℕ} {lost : Bool}
+        → turn_of p.view (length bytes) ≡ pour
         → Writes (poured p bytes) (drop (amount p.view (length bytes)) bytes) n lost q
         → Writes p bytes (amount p.view (length bytes) + n) lost q
-    hands : {p q : Streamer L} {bytes : List ℕ} {n : ℕ} {lost : Bool} (c : L) → turn_of p.view (length bytes) ≡ hand
-        → PutsOutgoing p true c → Writes (handed_over p true c) bytes n lost q → Writes p bytes n lost q
+    hands : {p q : Streamer L} {bytes : List ℕ} {n : ℕ} {lost : Bool} (c : L)
+        → turn_of p.view (length bytes) ≡ hand
+        → PutsOutgoing p true c
+        → Writes (handed_over p true c) bytes n lost q → Writes p bytes n lost q
     loses : {p : Streamer L} {bytes : List ℕ} (c : L) → turn_of p.view (length bytes) ≡ hand
         → PutsOutgoing p false c → Writes p bytes 0 true (handed_over p false c)
 

@@ -41,7 +41,8 @@ impl Writer {
         ensures value { result ≡ amount (view_of self.now) n }
         ensures within {
             (result ≤ n)
-                × (self.now.filling + result ≤ room_at self.now.terms (self.now.first + self.now.count))
+                × (self.now.filling + result
+                    ≤ room_at self.now.terms (self.now.first + self.now.count))
                 × (self.now.len + result ≤ self.now.terms.block_size) }
     {
         let room = self.packet_capacity() - self.filling;

@@ -59,7 +59,8 @@ impl Writer {
     fn hold_last(&mut self, seqno: u64)
         requires filling_value { self.old.filling ≡ 0 }
         requires count_bound { self.old.count + 1 < self.old.terms.slots }
-        requires initial_len_bound { self.old.first + self.old.count + self.old.terms.initial_len ≤ self.old.len }
+        requires initial_len_bound {
+            self.old.first + self.old.count + self.old.terms.initial_len ≤ self.old.len }
         ensures { view_of self.new ≡ unsent_last seqno (view_of self.old) }
     {
         self.state = State::Broken {
@@ -92,9 +93,11 @@ impl Writer {
     fn end_block<L: Link>(&mut self, link: &mut L, store: &[u8], frame: &mut [u8]) -> Finished
         requires state_value { self.old.state ≡ Streaming }
         requires buffers { Suffice self.old.terms store.now frame.old }
-        requires self_bound { self.old.count + closing_packets (view_of self.old) < self.old.terms.slots }
+        requires self_bound {
+            self.old.count + closing_packets (view_of self.old) < self.old.terms.slots }
         ensures {
-            EndsIf L.Link (self.old.filling == 0) (streamer_of self.old store.now frame.old link.old) result
+            EndsIf L.Link (self.old.filling == 0)
+                (streamer_of self.old store.now frame.old link.old) result
                 (streamer_of self.new store.now frame.new link.new) }
     {
         if self.filling == 0 {

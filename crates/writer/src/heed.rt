@@ -133,7 +133,8 @@ impl Writer {
         requires listens { listens self.old.state ≡ true }
         requires counted { (f : FailedNodes) → heard ≡ Ok (Some (Failed f)) → IsCounted f }
         ensures result { result ≡ answer_of (decided (view_of self.old) heard) }
-        ensures view { view_of self.new ≡ after (view_of self.old) (decided (view_of self.old) heard) }
+        ensures view {
+            view_of self.new ≡ after (view_of self.old) (decided (view_of self.old) heard) }
     {
         match self.decide(heard) {
             Decision::Wait => Ok(Heeded::Nothing),

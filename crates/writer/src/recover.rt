@@ -52,7 +52,8 @@ impl Writer {
         ensures same { SameLoans channel.old channel.new }
         ensures acts {
             Resumes L.Link N.NamenodeProtocol set_up token choice self.old.chosen.rows.items time
-                (site_of self.old store.now frame.old (channel_view channel.old) namenode.old) result
+                (site_of self.old store.now frame.old (channel_view channel.old) namenode.old)
+                result
                 (site_of self.new store.now frame.new (channel_view channel.new) namenode.new) }
     {
         let replayed = set_up.replay(channel.link, self, store, frame);
@@ -81,7 +82,8 @@ impl Writer {
         ensures same { SameLoans channel.old channel.new }
         ensures acts {
             Builds L.Link N.NamenodeProtocol stamped token choice self.old.chosen.rows.items time
-                (site_of self.old store.now frame.old (channel_view channel.old) namenode.old) result
+                (site_of self.old store.now frame.old (channel_view channel.old) namenode.old)
+                result
                 (site_of self.new store.now frame.new (channel_view channel.new) namenode.new) }
     {
         match stamped.set_up(channel, self, &token) {
@@ -110,7 +112,8 @@ impl Writer {
         ensures same { SameLoans channel.old channel.new }
         ensures acts {
             AsksStamp L.Link N.NamenodeProtocol choice self.old.chosen.rows.items time
-                (site_of self.old store.now frame.old (channel_view channel.old) namenode.old) result
+                (site_of self.old store.now frame.old (channel_view channel.old) namenode.old)
+                result
                 (site_of self.new store.now frame.new (channel_view channel.new) namenode.new) }
     {
         let counted = Counted::of(self);
@@ -139,7 +142,8 @@ impl Writer {
         ensures same { SameLoans channel.old channel.new }
         ensures acts {
             Rebuilds L.Link N.NamenodeProtocol time
-                (site_of self.old store.now frame.old (channel_view channel.old) namenode.old) result
+                (site_of self.old store.now frame.old (channel_view channel.old) namenode.old)
+                result
                 (site_of self.new store.now frame.new (channel_view channel.new) namenode.new) }
     {
         match self.choose_pipeline(channel, namenode) {
@@ -161,7 +165,8 @@ impl Writer {
         ensures same { SameLoans channel.old channel.new }
         ensures acts {
             IfSurvived L.Link N.NamenodeProtocol (beyond (view_of self.old)) time
-                (site_of self.old store.now frame.old (channel_view channel.old) namenode.old) result
+                (site_of self.old store.now frame.old (channel_view channel.old) namenode.old)
+                result
                 (site_of self.new store.now frame.new (channel_view channel.new) namenode.new) }
     {
         match self.survive() {

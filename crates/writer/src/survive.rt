@@ -38,7 +38,9 @@ impl Writer {
     pub(crate) fn survive(&mut self) -> Result<(), Refusal>
         ensures value { result_err result ≡ beyond (view_of self.old) }
         ensures view { view_of self.new ≡ view_of self.old }
-        ensures parted { Ready (result_err result) (view_of self.old) self.new.chosen.rows.items self.new.gone.rows.items }
+        ensures parted {
+            Ready (result_err result) (view_of self.old) self.new.chosen.rows.items
+                self.new.gone.rows.items }
     {
         let failed = self.state.failed_nodes();
         let count = self.nodes.rows.len();
@@ -67,7 +69,8 @@ impl Writer {
         requires gone { self.old.gone.rows.items ≡ gone_of (view_of self.old) }
         requires some_left { 1 ≤ length self.old.chosen.rows.items }
         ensures acts {
-            Replaces L.Link N.NamenodeProtocol (view_of self.old) (channel_view channel.old) namenode.old
+            Replaces L.Link N.NamenodeProtocol (view_of self.old)
+                (channel_view channel.old) namenode.old
                 result self.new.chosen.rows.items (channel_view channel.new) namenode.new }
         ensures same { SameLoans channel.old channel.new }
         ensures view { view_of self.new ≡ view_of self.old }
