@@ -70,9 +70,8 @@ impl Replayed {
             replayed,
             lost,
         } = self;
-        namenode
-            .update_pipeline(stamp, writer.len, writer.chosen.as_slice())
-            .map_err(|_| Refusal::Update)?;
+        let told = namenode.update_pipeline(stamp, writer.len, writer.chosen.as_slice());
+        told.map_err(|_| Refusal::Update)?;
         writer.resume(lost, stamp, token, time);
         Ok(Recovered {
             choice,
