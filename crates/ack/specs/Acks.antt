@@ -39,8 +39,8 @@ pub record AckFields : Type 0 where
 
 -- the last seqno counts, and replies add up
 abbrev pub joined : AckFields → AckPart → AckFields
-joined a (number n) = record { seqno = n; codes = a.codes }
-joined a (replies ns) = record { seqno = a.seqno; codes = a.codes ++ ns }
+joined a (number n) = record a { seqno = n }
+joined a (replies ns) = record a { codes = a.codes ++ ns }
 joined a nothing = a
 
 abbrev pub merge_ack : AckFields → WireField → Result AckFields Fault

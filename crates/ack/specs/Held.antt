@@ -13,8 +13,8 @@ abbrev pub no_ack : PipelineAck
 no_ack = record { seqno = 0; replies = no_replies }
 
 abbrev pub took : PipelineAck → AckPart → PipelineAck
-took a (number n) = record { seqno = n; replies = a.replies }
-took a (replies ns) = record { seqno = a.seqno; replies = fold noted a.replies ns }
+took a (number n) = record a { seqno = n }
+took a (replies ns) = record a { replies = fold noted a.replies ns }
 took a nothing = a
 
 abbrev pub merges_ack : PipelineAck → WireField → Result PipelineAck Fault

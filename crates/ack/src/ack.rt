@@ -4,7 +4,7 @@ ghost use Rattle.wire.specs.Fields.{varint, part};
 ghost use Rattle.wire.specs.declared.field.Fault.TheVariants.{WireType};
 ghost use Rattle.ack.specs.Acks.{zigzag, is_ack_tag};
 ghost use Rattle.ack.specs.Held.{no_ack, merges_ack, ack_size, ack_read};
-ghost use Rattle.ack.specs.Verdicts.{verdict_of, verdict_on};
+ghost use Rattle.ack.specs.Verdicts.{verdict_of, verdict_on, passes};
 ghost use Rattle.std.proofs.Common.{rules};
 
 use crate::packed::{Repeated, Skipped, push_packed};
@@ -98,8 +98,6 @@ impl PipelineAck {
         }
     }
 
-    // A name of its own, as `read` of a response: what both do is `decode`, each at its own type.
-
     /// Reads an answer. An absent number is 0.
     pub fn read(input: &[u8]) -> Result<PipelineAck, DecodeError>
         ensures { result ≡ ack_read input.now }
@@ -153,4 +151,15 @@ pub fn judge(input: &[u8]) -> Result<Verdict, DecodeError>
 {
     let ack = PipelineAck::read(input)?;
     Ok(ack.verdict())
+}
+
+/// The number of an answer that passes: one by which no node failed.
+pub fn passing(input: &[u8]) -> Option<u64>
+    ensures { result ≡ passes input.now }
+{
+    let ack = PipelineAck::read(input).ok()?;
+    if ack.replies.failed.count > 0 {
+        return None;
+    }
+    Some(ack.seqno)
 }

@@ -9,13 +9,11 @@ use wire::field::{DecodeError, Fault, Field};
 /// A response: its status, where it gave one. Nothing else of it counts.
 #[derive(Clone, Copy, Debug, PartialEq, Eq)]
 pub struct BlockOpResponse {
-    // Stays a number: a datanode may send a status that datatransfer.proto does not list.
+    // A number, since a datanode may send a status that datatransfer.proto does not list.
     pub status: Option<u32>,
 }
 
 impl BlockOpResponse {
-    // A name of its own, as `read` of an answer: what both do is `decode`, each at its own type.
-
     /// Reads a response. The last status counts.
     pub fn read(input: &[u8]) -> Result<BlockOpResponse, DecodeError>
         ensures { result ≡ response_of input.now }

@@ -16,7 +16,7 @@ pub struct FailedNodes {
     /// How many failed, those from 8 on too.
     pub count: usize,
     /// The highest position that failed, or 0 where none did.
-    // `count` says which; and it stands beside `positions` since positions from 8 on are counted, and not told apart.
+    // Of positions from 8 on `positions` does not tell.
     pub highest: usize,
 }
 

@@ -34,8 +34,7 @@ fn zigzagged(seqno: u64) -> u64
 
 /// Writes the answer to the packet of that number at the front of `out`, with a reply for each node, of which there are at most eight.
 /// Where there are more, or `out` is too short, it stays as it was.
-// Answers a place: nothing is allocated, and the contract speaks of the whole buffer, in which the answer ends there.
-// Its replies stay numbers: a datanode may answer a status that datatransfer.proto does not list.
+// Its replies are numbers, since a datanode may answer a status that datatransfer.proto does not list.
 pub fn write_ack(out: &mut [u8], seqno: u64, replies: &[u8]) -> Option<usize>
     ensures { answered seqno replies.now out.old out.new result }
 {

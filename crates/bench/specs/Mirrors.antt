@@ -10,7 +10,7 @@ use Rattle.packet.proofs.Reading.{unique}
 use Rattle.request.specs.declared.setup.Setup.{Setup}
 use Rattle.chain.specs.Meaning as meaning
 use Rattle.spool.specs.Calls.{SetsFor, Puts}
-use Rattle.spool.specs.Spools.{View, seen_in, takes, with_pending}
+use Rattle.spool.specs.Spools.{SpoolView, seen_in, takes, with_pending}
 use Rattle.bench.specs.Replicas.{Bytes, copies, mirrored}
 
 same_refl : (bs : List ℕ) → bytes_eq bs bs ≡ true
@@ -28,24 +28,24 @@ mirrored_more bs d (c ∷ cs) e =
     and_from _ _ (ap (λ z. bytes_eq (z ++ d) (bs ++ d)) q ∙ same_refl (bs ++ d)) (mirrored_more bs d cs p.1)
 
 -- what a set up leaves of the first node's bytes
-pub set_bytes : (o : Option Setup) (q : Setup) (v : View) (least : ℕ) (w : View) → Some q ≡ o → SetsFor o v least w → w.bytes ≡ take least v.bytes
+pub set_bytes : (o : Option Setup) (q : Setup) (v : SpoolView) (least : ℕ) (w : SpoolView) → Some q ≡ o → SetsFor o v least w → w.bytes ≡ take least v.bytes
 set_bytes None q v least w e f = absurd f
-set_bytes (Some r) q v least w e f = ap (λ (z : View). z.bytes) f.1
+set_bytes (Some r) q v least w e f = ap (λ (z : SpoolView). z.bytes) f.1
 
 -- what a put leaves of them
-put_on : (v w : View) (p : Packet) (beat fit : Bool) → true ≡ cond beat true fit → w ≡ cond beat v (cond fit (with_pending v p) v) → w.bytes ≡ cond beat v.bytes (v.bytes ++ p.bytes)
-put_on v w p true fit t e = ap (λ (z : View). z.bytes) e
-put_on v w p false true t e = ap (λ (z : View). z.bytes) e
+put_on : (v w : SpoolView) (p : Packet) (beat fit : Bool) → true ≡ cond beat true fit → w ≡ cond beat v (cond fit (with_pending v p) v) → w.bytes ≡ cond beat v.bytes (v.bytes ++ p.bytes)
+put_on v w p true fit t e = ap (λ (z : SpoolView). z.bytes) e
+put_on v w p false true t e = ap (λ (z : SpoolView). z.bytes) e
 put_on v w p false false t e = absurd (false≢true (sym t))
 
-pub put_bytes : (v w : View) (frame : List ℕ) (p : Packet) → Reads frame (Some p) → Puts v frame true w → w.bytes ≡ cond (p.seqno == 2 ^ 64 - 1) v.bytes (v.bytes ++ p.bytes)
+pub put_bytes : (v w : SpoolView) (frame : List ℕ) (p : Packet) → Reads frame (Some p) → Puts v frame true w → w.bytes ≡ cond (p.seqno == 2 ^ 64 - 1) v.bytes (v.bytes ++ p.bytes)
 put_bytes v w frame p r (None, (r', t, e)) = absurd (false≢true (sym t))
 put_bytes v w frame p r (Some p', (r', t, e)) =
     let same = unique p' p r'.0 r.0 (r'.1 ∙ sym r.1) in
     put_on v w p' (p'.seqno == 2 ^ 64 - 1) (takes v p') t e
     ∙ ap (λ (z : Packet). cond (z.seqno == 2 ^ 64 - 1) v.bytes (v.bytes ++ z.bytes)) same
 
-pub lost_put : (v w : View) (frame : List ℕ) (taken : Bool) → taken ≡ false → w ≡ v → meaning.Puts frame taken (seen_in v) (seen_in w)
+pub lost_put : (v w : SpoolView) (frame : List ℕ) (taken : Bool) → taken ≡ false → w ≡ v → meaning.Puts frame taken (seen_in v) (seen_in w)
 lost_put v w frame true t e = absurd (false≢true (sym t))
 lost_put v w frame false t e = ap seen_in e
 

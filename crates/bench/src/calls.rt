@@ -1,6 +1,6 @@
 //! The bench as a link, and as a chain.
 ghost use Rattle.spool.specs.Calls.{Sets, Nexts, Transfers};
-ghost use Rattle.spool.specs.Spools.{view_of, seen_in};
+ghost use Rattle.spool.specs.Spools.{spool_view, seen_in};
 ghost use Rattle.bench.specs.Acts.{PutsOrFull};
 ghost use Rattle.spool.specs.Meaning.{whole_of};
 ghost use Rattle.spool.specs.Meaning;
@@ -18,13 +18,16 @@ use request::setup::Setup;
 use spool::state::NODES;
 
 impl Link for Bench {
-    ghost sets = { λ a node request least came b. Sets (view_of a.lead) request least came (view_of b.lead) };
+    ghost sets = { λ a node request least came b.
+        Sets (spool_view a.lead) request least came (spool_view b.lead) };
 
-    ghost puts = { λ a frame taken b. PutsOrFull (view_of a.lead) frame taken (view_of b.lead) };
+    ghost puts = { λ a frame taken b.
+        PutsOrFull (spool_view a.lead) frame taken (spool_view b.lead) };
 
-    ghost nexts = { λ a came b. Nexts (view_of a.lead) came (view_of b.lead) };
+    ghost nexts = { λ a came b. Nexts (spool_view a.lead) came (spool_view b.lead) };
 
-    ghost transfers = { λ a node request came b. Transfers (view_of a.lead) came (view_of b.lead) };
+    ghost transfers = { λ a node request came b.
+        Transfers (spool_view a.lead) came (spool_view b.lead) };
 
     fn set_up(
         &mut self,
@@ -75,13 +78,17 @@ impl Link for Bench {
 }
 
 impl Chain for Bench {
-    ghost seen = { λ s. seen_in (view_of s.lead) };
+    ghost seen = { λ s. seen_in (spool_view s.lead) };
 
-    ghost setting = { λ a b node request least came e. Meaning.setting (whole_of a.lead) (view_of b.lead) request least came e };
+    ghost setting = { λ a b node request least came e.
+        Meaning.setting (whole_of a.lead) (spool_view b.lead) request least came e };
 
-    ghost putting = { λ a b frame taken e. ⊎_elim (λ p. Meaning.putting (whole_of a.lead) (view_of b.lead) frame taken p) (λ l. lost_put (view_of a.lead) (view_of b.lead) frame taken l.0 l.1) e };
+    ghost putting = { λ a b frame taken e.
+        ⊎_elim (λ p. Meaning.putting (whole_of a.lead) (spool_view b.lead) frame taken p)
+        (λ l. lost_put (spool_view a.lead) (spool_view b.lead) frame taken l.0 l.1) e };
 
-    ghost answering = { λ a b came e. Meaning.answering (view_of a.lead) (view_of b.lead) came (whole_of a.lead) e };
+    ghost answering = { λ a b came e.
+        Meaning.answering (spool_view a.lead) (spool_view b.lead) came (whole_of a.lead) e };
 
     ghost transferring = { Prim.search rules };
 }

@@ -30,7 +30,7 @@ pub(crate) fn append_all(replicas: &mut [Vec<u8>], more: &[u8])
 }
 
 // Bytes in a memory of their own, with room for as many as `room`.
-// Stays a function: a clone is promised room for its own bytes alone, and a replica takes all its room at once, so that no put needs memory.
+// A replica takes all its room at once, so that no put needs memory.
 fn copy_of(heap: Global, bytes: &[u8], room: usize) -> Result<Vec<u8>, AllocError>
     ensures { IfOk result (λ v. v.items ≡ bytes.now) }
 {
@@ -49,7 +49,7 @@ pub(crate) fn copies_of(
     ensures { IfOk result (λ v. copies v.items ≡ replicate count bytes.now) }
 {
     let mut all = Vec::new(heap);
-    // Stays a loop: of `try_collect` over a range the check does not see what it collects.
+    // A loop, since of `try_collect` over a range the check does not see what it collects.
     'copies: for _ in 0..count {
         all.push(copy_of(heap, bytes, room)?)?;
     }

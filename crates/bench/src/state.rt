@@ -1,6 +1,6 @@
 //! The bench itself.
 ghost use Rattle.std.specs.Prelude.{◌≡◌, true};
-ghost use Rattle.spool.specs.Spools.{view_of};
+ghost use Rattle.spool.specs.Spools.{spool_view};
 ghost use Rattle.bench.specs.Replicas.{copies, mirrored};
 
 use spool::state::Spool;
@@ -12,5 +12,5 @@ pub struct Bench {
     pub(crate) lead: Spool,
     pub(crate) mirrors: Vec<Vec<u8>>,
     pub(crate) heap: Global,
-    ghost same: { mirrored (view_of lead).bytes (copies mirrors.items) ≡ true },
+    ghost same: { mirrored (spool_view lead).bytes (copies mirrors.items) ≡ true },
 }

@@ -1,5 +1,5 @@
 -- What a pipeline of datanodes means, and what each act makes of it. Assumes nothing.
-use Rattle.std.specs.Prelude.{◌≡◌, ℕ, ◌-◌, ◌^◌, ◌≤◌, Bool, true, false, cond, List, [], ◌∷◌, ◌++◌, length, take, Some, None, Option, ◌==◌, ◌≢◌}
+use Rattle.std.specs.Prelude.{◌≡◌, ℕ, ◌-◌, ◌^◌, ◌≤◌, Bool, true, false, if◌then◌else◌, List, [], ◌∷◌, ◌++◌, length, take, Some, None, Option, ◌==◌, ◌≢◌}
 use Rattle.ack.specs.Verdicts.{passes}
 use Rattle.packet.specs.Frame.{Packet, octets_of}
 use Rattle.packet.specs.Reading.{Carried}
@@ -17,7 +17,7 @@ pub record Seen : Type 0 where
 
 -- set up anew, with the bytes up to the least count
 abbrev pub rebuilt : Setup → ℕ → Seen → Seen
-rebuilt q least s = record { kept = take least s.kept; pending = []; nodes = q.pipeline_size; chunk = q.chunk_size }
+rebuilt q least s = record s { kept = take least s.kept; pending = []; nodes = q.pipeline_size; chunk = q.chunk_size }
 
 pub record Rebuilds (request : List ℕ) (least : ℕ) (s t : Seen) : Type 0 where
   pub setup : Setup
@@ -32,9 +32,7 @@ SetsUp request least None s t = t ≡ s
 
 -- a heartbeat, whose number is -1, is not pending
 abbrev pub with_packet : Packet → Seen → Seen
-with_packet p s =
-    cond (p.seqno == 2 ^ 64 - 1) s
-    (record { kept = s.kept; pending = s.pending ++ p ∷ []; nodes = s.nodes; chunk = s.chunk })
+with_packet p s = if p.seqno == 2 ^ 64 - 1 then s else record s { pending = s.pending ++ p ∷ [] }
 
 pub record Takes (frame : List ℕ) (s t : Seen) : Type 0 where
   pub packet : Packet
@@ -51,7 +49,7 @@ Puts frame false s t = t ≡ s
 pub record Confirms (p : Packet) (ps : List Packet) (s t : Seen) : Type 0 where
   pub begins : p.offset ≡ length s.kept
   pub right : p.sums ≡ sums_of s.chunk p.bytes
-  pub is : t ≡ record { kept = s.kept ++ p.bytes; pending = ps; nodes = s.nodes; chunk = s.chunk }
+  pub is : t ≡ record s { kept = s.kept ++ p.bytes; pending = ps }
 
 -- an answer that passes with the first pending number confirms that packet; another changes nothing
 abbrev pub Passes : Option ℕ → List Packet → Seen → Seen → Type 0

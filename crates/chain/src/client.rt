@@ -26,14 +26,12 @@ impl fmt::Display for ExchangeError {
 impl Error for ExchangeError {}
 
 /// Sends a frame, and where it was taken asks for an answer and tells how many octets it has, if one has come.
-// The link and the answer's buffer stay two, as the link's own calls take them: a struct of both would be taken apart here at once.
-// The answer's length is told beside its buffer, as the link tells it: nothing is allocated, and the contract speaks of the whole buffer.
 pub fn put_then_next<L: Link>(
     link: &mut L,
     frame: &[u8],
     answer: &mut [u8],
 ) -> Result<Option<usize>, ExchangeError>
-    ensures { Exchanged L.Link.puts L.Link.nexts link.old frame.now answer.old answer.new link.new result }
+    ensures { Exchanged L.Link link.old frame.now answer.old answer.new link.new result }
 {
     link.put(frame).map_err(|_| ExchangeError::Unsent)?;
     link.next(answer).map_err(|_| ExchangeError::Lost)

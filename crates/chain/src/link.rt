@@ -44,7 +44,8 @@ pub trait Link: Sized {
         least: u64,
         answer: &mut [u8],
     ) -> Result<usize, LinkLost>
-        ensures { Replied (λ came. sets self.old node.now request.now least came self.new) answer.old answer.new result };
+        ensures { Replied (λ came. sets self.old node.now request.now least came self.new)
+            answer.old answer.new result };
 
     /// Sends a frame.
     fn put(&mut self, frame: &[u8]) -> Result<(), LinkLost>
@@ -62,5 +63,6 @@ pub trait Link: Sized {
         request: &[u8],
         answer: &mut [u8],
     ) -> Result<usize, LinkLost>
-        ensures { Replied (λ came. transfers self.old node.now request.now came self.new) answer.old answer.new result };
+        ensures { Replied (λ came. transfers self.old node.now request.now came self.new)
+            answer.old answer.new result };
 }

@@ -7,6 +7,7 @@ use Rattle.proto.specs.declared.datanode.Datanode.{Datanode}
 use Rattle.chain.specs.Acts.{Came}
 use Rattle.chain.specs.Meaning.{Seen, SetsUp}
 use Rattle.chain.specs.Meaning as meaning
+use Rattle.chain.specs.declared.link.Link as link
 use Rattle.faults.specs.declared.faulty_link.FaultyLink.{FaultyLink}
 use Rattle.faults.specs.Links.{Spoils, Sets, Puts, Nexts, Transfers}
 
@@ -19,30 +20,26 @@ spoilt request least None came s t p e = nothing_came request least came s t p e
 spoilt request least (Some r) (Some q) s t p e = e
 spoilt request least (Some r) None s t p e = absurd p
 
-module _ {C : Type 0} (seen : C → Seen) where
-  pub setting : (sets : C → Datanode → List ℕ → ℕ → Option (List ℕ) → C → Type 0)
-      → ((a b : C) (node : Datanode) (request : List ℕ) (least : ℕ) (came : Option (List ℕ)) → sets a node request least came b → SetsUp request least came (seen a) (seen b))
-      → (a b : FaultyLink C) (node : Datanode) (request : List ℕ) (least : ℕ) (came : Option (List ℕ)) → Sets sets a node request least came b → SetsUp request least came (seen a.inner) (seen b.inner)
-  setting sets law a b node request least came (inl (d, inl (e, n)), l) = nothing_came request least came (seen a.inner) (seen b.inner) n (ap seen e)
-  setting sets law a b node request least came (inl (d, inr (own, (act, p))), l) = spoilt request least own came (seen a.inner) (seen b.inner) p (law a.inner b.inner node request least own act)
-  setting sets law a b node request least came (inr (d, act), l) = law a.inner b.inner node request least came act
+module _ {C : Type 0} (acts : link.Ghosts C) (seen : C → Seen) where
+  pub setting : ((a b : C) (node : Datanode) (request : List ℕ) (least : ℕ) (came : Option (List ℕ)) → acts.sets a node request least came b → SetsUp request least came (seen a) (seen b))
+      → (a b : FaultyLink C) (node : Datanode) (request : List ℕ) (least : ℕ) (came : Option (List ℕ)) → Sets acts a node request least came b → SetsUp request least came (seen a.inner) (seen b.inner)
+  setting law a b node request least came (inl (d, inl (e, n)), l) = nothing_came request least came (seen a.inner) (seen b.inner) n (ap seen e)
+  setting law a b node request least came (inl (d, inr (own, (act, p))), l) = spoilt request least own came (seen a.inner) (seen b.inner) p (law a.inner b.inner node request least own act)
+  setting law a b node request least came (inr (d, act), l) = law a.inner b.inner node request least came act
 
-  pub putting : (puts : C → List ℕ → Bool → C → Type 0)
-      → ((a b : C) (frame : List ℕ) (taken : Bool) → puts a frame taken b → meaning.Puts frame taken (seen a) (seen b))
-      → (a b : FaultyLink C) (frame : List ℕ) (taken : Bool) → Puts puts a frame taken b → meaning.Puts frame taken (seen a.inner) (seen b.inner)
-  putting puts law a b frame true (inl (d, (e, t)), m) = absurd (false≢true (sym t))
-  putting puts law a b frame false (inl (d, (e, t)), m) = ap seen e
-  putting puts law a b frame taken (inr (d, act), m) = law a.inner b.inner frame taken act
+  pub putting : ((a b : C) (frame : List ℕ) (taken : Bool) → acts.puts a frame taken b → meaning.Puts frame taken (seen a) (seen b))
+      → (a b : FaultyLink C) (frame : List ℕ) (taken : Bool) → Puts acts a frame taken b → meaning.Puts frame taken (seen a.inner) (seen b.inner)
+  putting law a b frame true (inl (d, (e, t)), m) = absurd (false≢true (sym t))
+  putting law a b frame false (inl (d, (e, t)), m) = ap seen e
+  putting law a b frame taken (inr (d, act), m) = law a.inner b.inner frame taken act
 
-  pub answering : (nexts : C → Came → C → Type 0)
-      → ((a b : C) (came : Came) → nexts a came b → meaning.Nexts came (seen a) (seen b))
-      → (a b : FaultyLink C) (came : Came) → Nexts nexts seen a came b → meaning.Nexts came (seen a.inner) (seen b.inner)
-  answering nexts law a b came (inl (d, (e, stray))) = subst (λ t. meaning.Nexts came (seen a.inner) t) (sym (ap seen e)) (stray (seen a.inner) refl)
-  answering nexts law a b came (inr (d, act)) = law a.inner b.inner came act
+  pub answering : ((a b : C) (came : Came) → acts.nexts a came b → meaning.Nexts came (seen a) (seen b))
+      → (a b : FaultyLink C) (came : Came) → Nexts acts seen a came b → meaning.Nexts came (seen a.inner) (seen b.inner)
+  answering law a b came (inl (d, (e, stray))) = subst (λ t. meaning.Nexts came (seen a.inner) t) (sym (ap seen e)) (stray (seen a.inner) refl)
+  answering law a b came (inr (d, act)) = law a.inner b.inner came act
 
-  pub transferring : (transfers : C → Datanode → List ℕ → Option (List ℕ) → C → Type 0)
-      → ((a b : C) (node : Datanode) (request : List ℕ) (came : Option (List ℕ)) → transfers a node request came b → seen b ≡ seen a)
-      → (a b : FaultyLink C) (node : Datanode) (request : List ℕ) (came : Option (List ℕ)) → Transfers transfers a node request came b → seen b.inner ≡ seen a.inner
-  transferring transfers law a b node request came (inl (d, inl (e, n))) = ap seen e
-  transferring transfers law a b node request came (inl (d, inr (own, (act, p)))) = law a.inner b.inner node request own act
-  transferring transfers law a b node request came (inr (d, act)) = law a.inner b.inner node request came act
+  pub transferring : ((a b : C) (node : Datanode) (request : List ℕ) (came : Option (List ℕ)) → acts.transfers a node request came b → seen b ≡ seen a)
+      → (a b : FaultyLink C) (node : Datanode) (request : List ℕ) (came : Option (List ℕ)) → Transfers acts a node request came b → seen b.inner ≡ seen a.inner
+  transferring law a b node request came (inl (d, inl (e, n))) = ap seen e
+  transferring law a b node request came (inl (d, inr (own, (act, p)))) = law a.inner b.inner node request own act
+  transferring law a b node request came (inr (d, act)) = law a.inner b.inner node request came act

@@ -8,7 +8,8 @@ ghost use Rattle.faults.specs.declared.failing_node.Failure.TheVariants.{Ahead};
 ghost use Rattle.faults.specs.Fails.{Puts, Nexts, Refuses, due, numbered, once_put};
 ghost use Rattle.std.proofs.Common.{rules};
 
-use crate::answer::{ANSWER_LEN, ERROR, NODES, SUCCESS, passing};
+use crate::answer::{ANSWER_LEN, ERROR, NODES, SUCCESS};
+use ack::ack::passing;
 use ack::write::write_ack;
 use chain::link::{Link, LinkLost};
 use chain::meaning::Chain;
@@ -53,7 +54,14 @@ pub struct FailingNode<C> {
 impl<C> FailingNode<C> {
     /// The datanode at `position` of `nodes` fails at the packet of that number.
     pub fn at_packet(inner: C, packet: u64, position: usize, nodes: usize) -> FailingNode<C>
-        ensures { result ≡ record { inner = inner; packet = packet; position = position; nodes = nodes; failure = Ahead; answered = 0 } }
+        ensures { result ≡ record {
+          inner = inner;
+          packet = packet;
+          position = position;
+          nodes = nodes;
+          failure = Ahead;
+          answered = 0;
+        } }
     {
         FailingNode {
             inner,
@@ -135,13 +143,15 @@ impl<C> FailingNode<C> {
 }
 
 impl<C: Link> Link for FailingNode<C> {
-    ghost sets = { λ a node request least came b. C.Link.sets a.inner node request least came b.inner };
+    ghost sets = { λ a node request least came b.
+        C.Link.sets a.inner node request least came b.inner };
 
-    ghost puts = { λ a frame taken b. Puts C.Link.puts a frame taken b };
+    ghost puts = { λ a frame taken b. Puts C.Link a frame taken b };
 
-    ghost nexts = { λ a came b. Nexts C.Link.nexts a came b };
+    ghost nexts = { λ a came b. Nexts C.Link a came b };
 
-    ghost transfers = { λ a node request came b. C.Link.transfers a.inner node request came b.inner };
+    ghost transfers = { λ a node request came b.
+        C.Link.transfers a.inner node request came b.inner };
 
     fn set_up(
         &mut self,

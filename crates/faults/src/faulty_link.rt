@@ -3,7 +3,7 @@ ghost use Rattle.std.specs.Prelude.{◌≡◌, None, Option};
 ghost use Rattle.packet.specs.Frame.{Packet};
 ghost use Rattle.packet.specs.Reading.{Reads};
 ghost use Rattle.chain.specs.Acts.{Replied};
-ghost use Rattle.faults.specs.Links.{due, last_in, last_after_set_up, Fails, Sets, Puts, Nexts, Transfers};
+ghost use Rattle.faults.specs.Links.{due, last_in, last_after_set_up, FailsToSet, FailsToTransfer, Sets, Puts, Nexts, Transfers};
 ghost use Rattle.faults.specs.Meaning.{setting, putting, answering, transferring};
 ghost use Rattle.std.proofs.Common.{rules};
 
@@ -37,7 +37,13 @@ pub struct FaultyLink<C> {
 
 impl<C> FaultyLink<C> {
     pub fn over(inner: C, chance: Chance, rarity: u64) -> FaultyLink<C>
-        ensures { result ≡ record { inner = inner; chance = chance; rarity = rarity; nodes = 1; last = None } }
+        ensures { result ≡ record {
+          inner = inner;
+          chance = chance;
+          rarity = rarity;
+          nodes = 1;
+          last = None;
+        } }
     {
         FaultyLink {
             inner,
@@ -74,7 +80,8 @@ impl<C> FaultyLink<C> {
     // Notes a packet that was taken.
     fn note(&mut self, frame: &[u8])
         ensures inner { self.new.inner ≡ self.old.inner }
-        ensures last { (p : Option Packet) × (Reads frame.now p × (self.new.last ≡ last_in p self.old.last)) }
+        ensures last { (p : Option Packet)
+            × (Reads frame.now p × (self.new.last ≡ last_in p self.old.last)) }
     {
         if let Some(read) = read_frame(frame) {
             if read.packet.last {
@@ -119,7 +126,10 @@ impl<C: Link> FaultyLink<C> {
         least: u64,
         answer: &mut [u8],
     ) -> Result<usize, LinkLost>
-        ensures { Replied (λ came. Fails self.old.inner (λ own c. C.Link.sets self.old.inner node.now request.now least own c) came self.new.inner × (self.new.last ≡ last_after_set_up came self.old.last)) answer.old answer.new result }
+        ensures { Replied
+            (λ came. FailsToSet C.Link self.old node.now request.now least came self.new
+            × (self.new.last ≡ last_after_set_up came self.old.last))
+            answer.old answer.new result }
     {
         let bad = self.bad_response().ok_or(LinkLost)?;
         let len = bad.len();
@@ -140,7 +150,9 @@ impl<C: Link> FaultyLink<C> {
         request: &[u8],
         answer: &mut [u8],
     ) -> Result<usize, LinkLost>
-        ensures { Replied (λ came. Fails self.old.inner (λ own c. C.Link.transfers self.old.inner node.now request.now own c) came self.new.inner) answer.old answer.new result }
+        ensures { Replied
+            (λ came. FailsToTransfer C.Link self.old node.now request.now came self.new)
+            answer.old answer.new result }
     {
         let bad = self.bad_response().ok_or(LinkLost)?;
         let len = bad.len();
@@ -155,13 +167,13 @@ impl<C: Link> FaultyLink<C> {
 }
 
 impl<C: Watched> Link for FaultyLink<C> {
-    ghost sets = { λ a node request least came b. Sets C.Link.sets a node request least came b };
+    ghost sets = { λ a node request least came b. Sets C.Link a node request least came b };
 
-    ghost puts = { λ a frame taken b. Puts C.Link.puts a frame taken b };
+    ghost puts = { λ a frame taken b. Puts C.Link a frame taken b };
 
-    ghost nexts = { λ a came b. Nexts C.Link.nexts C.Chain.seen a came b };
+    ghost nexts = { λ a came b. Nexts C.Link C.Chain.seen a came b };
 
-    ghost transfers = { λ a node request came b. Transfers C.Link.transfers a node request came b };
+    ghost transfers = { λ a node request came b. Transfers C.Link a node request came b };
 
     fn set_up(
         &mut self,
@@ -211,11 +223,11 @@ impl<C: Watched> Link for FaultyLink<C> {
 impl<C: Watched> Chain for FaultyLink<C> {
     ghost seen = { λ a. C.Chain.seen a.inner };
 
-    ghost setting = { λ a b node request least came e. setting C.Chain.seen C.Link.sets C.Chain.setting a b node request least came e };
+    ghost setting = { setting C.Link C.Chain.seen C.Chain.setting };
 
-    ghost putting = { λ a b frame taken e. putting C.Chain.seen C.Link.puts C.Chain.putting a b frame taken e };
+    ghost putting = { putting C.Link C.Chain.seen C.Chain.putting };
 
-    ghost answering = { λ a b came e. answering C.Chain.seen C.Link.nexts C.Chain.answering a b came e };
+    ghost answering = { answering C.Link C.Chain.seen C.Chain.answering };
 
-    ghost transferring = { λ a b node request came e. transferring C.Chain.seen C.Link.transfers C.Chain.transferring a b node request came e };
+    ghost transferring = { transferring C.Link C.Chain.seen C.Chain.transferring };
 }

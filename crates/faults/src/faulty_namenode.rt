@@ -48,11 +48,11 @@ impl<N: NamenodeProtocol> NamenodeProtocol for FaultyNamenode<N> {
 
     ghost token = { λ a. N.NamenodeProtocol.token a.inner };
 
-    ghost lists = { λ a asked came b. Lists N.NamenodeProtocol.lists a asked came b };
+    ghost lists = { λ a asked came b. Lists N.NamenodeProtocol a asked came b };
 
-    ghost stamps = { λ a size came b. Stamps N.NamenodeProtocol.stamps a size came b };
+    ghost stamps = { λ a size came b. Stamps N.NamenodeProtocol a size came b };
 
-    ghost updates = { λ a new accepted b. Updates N.NamenodeProtocol.updates a new accepted b };
+    ghost updates = { λ a new accepted b. Updates N.NamenodeProtocol a new accepted b };
 
     fn get_additional_datanode(
         &mut self,

@@ -4,8 +4,9 @@ ghost use Rattle.ack.specs.Verdicts.{passes};
 ghost use Rattle.chain.specs.Acts.{Answered};
 ghost use Rattle.faults.specs.Faults.{is_stray, Stray};
 
-use crate::answer::{ANSWER_LEN, ERROR, NODES, SUCCESS, UNKNOWN_SEQNO, passing};
+use crate::answer::{ANSWER_LEN, ERROR, NODES, SUCCESS, UNKNOWN_SEQNO};
 use crate::chance::Chance;
+use ack::ack::passing;
 use ack::write::write_ack;
 use chain::link::LinkLost;
 use packet::header::HEART_BEAT_SEQNO;

@@ -13,13 +13,21 @@ pub record Entry : Type 0 where
 
 -- the entry that an update asks for
 abbrev pub entry_for : ℕ → ℕ → List Datanode → Entry
-entry_for stamp size nodes = record { stamp = stamp; size = size; ids = map id_of nodes; storages = map (λ d. octets_in d.storage_id) nodes }
+entry_for stamp size nodes = record {
+  stamp = stamp;
+  size = size;
+  ids = map id_of nodes;
+  storages = map (λ d. octets_in d.storage_id) nodes;
+}
 
 -- what a namenode is told when it is asked for a datanode more: the block's length, the datanodes that are left, and those that failed
 pub record Ask : Type 0 where
   pub size : ℕ
   pub survivors : List Datanode
   pub failed : List Datanode
+
+abbrev pub ask_for : ℕ → List Datanode → List Datanode → Ask
+ask_for size survivors failed = record { size = size; survivors = survivors; failed = failed }
 
 -- a datanode as a namenode hands it out, which nobody has looked at yet
 pub record Row : Type 0 where

@@ -1,6 +1,6 @@
 //! The three requests of a writer to its namenode, by the namenode's own acts. Each may be refused at any time.
 ghost use Rattle.std.specs.Prelude.{◌≡◌, ℕ, Bool, List, length, Option, is_ok};
-ghost use Rattle.namenode.specs.Entries.{Entry, Ask, Offer, Lists, Stamps, entry_for, row_at, row_of};
+ghost use Rattle.namenode.specs.Entries.{Entry, Ask, Offer, Lists, Stamps, ask_for, entry_for, row_at, row_of};
 
 use proto::datanode::Datanode;
 use std::error::Error;
@@ -43,14 +43,15 @@ pub trait NamenodeProtocol: Sized {
     ghost updates: { Self → Entry → Bool → Self → Type 0 };
 
     /// Asks for a list of datanodes with one more than those that are left.
-    // The parameters stay apart, as those of `update_pipeline`: they are HDFS's own, and a struct of them would be made for the one call.
     fn get_additional_datanode(
         &mut self,
         size: u64,
         survivors: &[Datanode],
         failed: &[Datanode],
     ) -> Result<(), Refused>
-        ensures { Lists (λ came. lists self.old (record { size = size; survivors = survivors.now; failed = failed.now }) came self.new) (offer self.new) (is_ok result) };
+        ensures { Lists
+            (λ came. lists self.old (ask_for size survivors.now failed.now) came self.new)
+            (offer self.new) (is_ok result) };
 
     /// How many datanodes the list has.
     fn offered_len(&self) -> usize

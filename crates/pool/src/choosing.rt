@@ -2,7 +2,7 @@
 ghost use Rattle.std.specs.Prelude.{◌≡◌, [], ◌++◌, is_ok, is_some, IfOk, vec_items};
 ghost use Rattle.replace.specs.Choice.{any_same};
 ghost use Rattle.pool.specs.Pools.{with_spares, first_spare, list_for, listed, Lists};
-ghost use Rattle.pool.specs.Books.{View};
+ghost use Rattle.pool.specs.Books.{BookView};
 ghost use Rattle.std.proofs.Common.{rules};
 
 use crate::book::PLACES;
@@ -34,7 +34,8 @@ fn first_spare(spares: &[Datanode], survivors: &[Datanode], failed: &[Datanode])
 impl SpareDatanodes {
     // These datanodes to spare, with memory for every list that they are offered in.
     pub(crate) fn new(heap: Global, spares: &[Datanode]) -> Result<SpareDatanodes, AllocError>
-        ensures { IfOk result (λ s. (vec_items s.spares ≡ spares.now) × (vec_items s.offered ≡ [])) }
+        ensures { IfOk result
+            (λ s. (vec_items s.spares ≡ spares.now) × (vec_items s.offered ≡ [])) }
     {
         let mut kept = Vec::new(heap);
         kept.extend_from_slice(spares)?;
@@ -47,8 +48,11 @@ impl SpareDatanodes {
 
     // Offers the survivors and a spare, where there is room for them and a spare that is new.
     fn choose(&mut self, survivors: &[Datanode], failed: &[Datanode]) -> Result<(), Refused>
-        ensures answer { is_ok result ≡ is_some (list_for (vec_items self.old.spares) survivors.now failed.now) }
-        ensures after { (v : View) → with_spares v self.new ≡ listed (with_spares v self.old) (list_for (vec_items self.old.spares) survivors.now failed.now) }
+        ensures answer { is_ok result
+            ≡ is_some (list_for (vec_items self.old.spares) survivors.now failed.now) }
+        ensures after { (v : BookView)
+            → with_spares v self.new ≡ listed (with_spares v self.old)
+            (list_for (vec_items self.old.spares) survivors.now failed.now) }
     {
         if survivors.len() > PLACES {
             return Err(Refused);
@@ -65,7 +69,8 @@ impl Spares for SpareDatanodes {
 
     ghost lists = { λ s v asked came w t. Lists (with_spares v s) asked came (with_spares w t) };
 
-    ghost stays = { λ s t. (vec_items t.spares ≡ vec_items s.spares) × (vec_items t.offered ≡ vec_items s.offered) };
+    ghost stays = { λ s t.
+        (vec_items t.spares ≡ vec_items s.spares) × (vec_items t.offered ≡ vec_items s.offered) };
 
     fn list(
         &mut self,

@@ -17,7 +17,8 @@ pub struct BlockEntry<'a> {
 impl<S> MemoryNamenode<S> {
     /// The entry as it stands.
     pub fn entry(&self) -> BlockEntry<'_>
-        ensures { entry_for result.stamp result.size result.nodes.now ≡ (book_of self.now.book).entry }
+        ensures { entry_for result.stamp result.size result.nodes.now
+            ≡ (book_of self.now.book).entry }
     {
         BlockEntry {
             stamp: self.book.stamp,

@@ -10,8 +10,7 @@ use proto::datanode::Datanode;
 use proto::token::Token;
 use std::alloc::{AllocError, Global};
 
-// Puts these datanodes in place of those that were kept. Beside `NodeTable::overwrite` of `pipeline`, which keeps its memory as it is: the
-// crates share no table, and here it is enough that the room gets no smaller.
+// Puts these datanodes in place of those that were kept.
 pub(crate) fn refill(kept: &mut Vec<Datanode>, nodes: &[Datanode])
     requires { length nodes.now ≤ vec_capacity kept.old }
     ensures items { kept.new.items ≡ nodes.now }
@@ -38,7 +37,10 @@ impl Book {
         nodes: &[Datanode],
         token: Token,
     ) -> Result<Book, AllocError>
-        ensures { IfOk result (λ b. book_of b ≡ record { entry = entry_for stamp size nodes.now; token = octets_in token.message }) }
+        ensures { IfOk result (λ b. book_of b ≡ record {
+          entry = entry_for stamp size nodes.now;
+          token = octets_in token.message;
+        }) }
     {
         let mut kept = Vec::with_capacity(heap, PLACES)?;
         kept.extend_from_slice(nodes)?;
@@ -51,7 +53,6 @@ impl Book {
     }
 
     // The stamp after the entry's, where there is one.
-    // An Option, as that of `checked_add`: that no number follows is the one way to fail, and the caller refuses for it.
     pub(crate) fn next_stamp(&self) -> Option<u64>
         ensures { result ≡ stamp_after (book_of self.now).entry.stamp }
     {
@@ -66,7 +67,10 @@ impl Book {
         nodes: &[Datanode],
     ) -> Result<(), Refused>
         ensures answer { is_ok result ≡ accepts (entry_for stamp size nodes.now) }
-        ensures after { book_of self.new ≡ (if is_ok result then with_entry (book_of self.old) (entry_for stamp size nodes.now) else book_of self.old) }
+        ensures after { book_of self.new
+            ≡ (if is_ok result
+            then with_entry (book_of self.old) (entry_for stamp size nodes.now)
+            else book_of self.old) }
     {
         if !has_room(nodes) {
             return Err(Refused);

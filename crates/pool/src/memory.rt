@@ -29,7 +29,6 @@ pub type House = MemoryNamenode<NoSpares>;
 /// A namenode of one block, which has datanodes to spare.
 pub type Pool = MemoryNamenode<SpareDatanodes>;
 
-// Both makers take the entry's parts one by one: a struct of them would be a `Book` without its memory.
 impl MemoryNamenode<NoSpares> {
     /// A namenode that has the block at this stamp and length on these datanodes. This alone takes memory.
     pub fn new(
@@ -39,7 +38,10 @@ impl MemoryNamenode<NoSpares> {
         nodes: &[Datanode],
         token: Token,
     ) -> Result<House, AllocError>
-        ensures { IfOk result (λ h. house_of h ≡ record { entry = entry_for stamp size nodes.now; token = octets_in token.message }) }
+        ensures { IfOk result (λ h. house_of h ≡ record {
+          entry = entry_for stamp size nodes.now;
+          token = octets_in token.message;
+        }) }
     {
         Ok(MemoryNamenode {
             book: Book::new(heap, stamp, size, nodes, token)?,
@@ -58,7 +60,14 @@ impl MemoryNamenode<SpareDatanodes> {
         token: Token,
         spares: &[Datanode],
     ) -> Result<Pool, AllocError>
-        ensures { IfOk result (λ p. pool_of p ≡ record { book = record { entry = entry_for stamp size nodes.now; token = octets_in token.message }; spares = spares.now; offered = [] }) }
+        ensures { IfOk result (λ p. pool_of p ≡ record {
+          book = record {
+            entry = entry_for stamp size nodes.now;
+            token = octets_in token.message;
+          };
+          spares = spares.now;
+          offered = [];
+        }) }
     {
         let book = Book::new(heap, stamp, size, nodes, token)?;
         let spares = SpareDatanodes::new(heap, spares)?;
@@ -66,7 +75,7 @@ impl MemoryNamenode<SpareDatanodes> {
     }
 }
 
-// A datanode as it is handed out. Stays a function: neither `From` nor `Offered` is of this crate.
+// A datanode as it is handed out.
 fn hand_out(node: &Datanode) -> Offered<'_>
     ensures { row_of (Some result) ≡ Some (row_for node.now) }
 {
@@ -82,11 +91,14 @@ impl<S: Spares> NamenodeProtocol for MemoryNamenode<S> {
 
     ghost token = { λ n. (book_of n.book).token };
 
-    ghost lists = { λ a asked came b. S.lists a.spares (book_of a.book) asked came (book_of b.book) b.spares };
+    ghost lists = { λ a asked came b.
+        S.lists a.spares (book_of a.book) asked came (book_of b.book) b.spares };
 
-    ghost stamps = { λ a size came b. Stamps (book_of a.book) came (book_of b.book) × S.stays a.spares b.spares };
+    ghost stamps = { λ a size came b.
+        Stamps (book_of a.book) came (book_of b.book) × S.stays a.spares b.spares };
 
-    ghost updates = { λ a new accepted b. Updates (book_of a.book) new accepted (book_of b.book) × S.stays a.spares b.spares };
+    ghost updates = { λ a new accepted b.
+        Updates (book_of a.book) new accepted (book_of b.book) × S.stays a.spares b.spares };
 
     fn get_additional_datanode(
         &mut self,
@@ -105,7 +117,7 @@ impl<S: Spares> NamenodeProtocol for MemoryNamenode<S> {
         Some(hand_out(self.spares.offered().get(position)?))
     }
 
-    // As `stamp_token`: this namenode has one token, and the interface asks for both by names of their own.
+    // This namenode has one token, which comes with lists and with stamps.
     fn offered_token(&self) -> &[u8] {
         self.book.token()
     }

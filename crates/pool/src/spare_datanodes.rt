@@ -3,7 +3,7 @@ ghost use Rattle.std.specs.Prelude.{◌≤◌, vec_capacity};
 
 use proto::datanode::Datanode;
 
-// Apart from `choosing.rt`: what is said there rests on `specs/Pools.antt`, which speaks of this type.
+// In a file of its own, since what `choosing.rt` says rests on `specs/Pools.antt`, which speaks of this type.
 /// Datanodes to spare. `offered` is the list that was handed out last: up to eight survivors and a spare.
 #[derive(Drop)]
 pub struct SpareDatanodes {

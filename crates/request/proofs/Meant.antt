@@ -105,19 +105,10 @@ module _ (w : WriteBlock) (fit : Widths w) where
 
   -- what is read of the header, and of all that comes before the storages
   abbrev begun : ℕ → Setup
-  begun stamp = record { stage = 0; pipeline_size = 0; min_bytes = 0; max_bytes = 0; latest_stamp = 0; stamp = stamp; checksum_type = 0; chunk_size = 0 }
+  begun stamp = record no_setup { stamp = stamp }
 
   abbrev asked : ℕ → ℕ → ℕ → Setup
-  asked stamp type chunk = record {
-    stage = stage_number w.stage;
-    pipeline_size = length w.targets.now + 1;
-    min_bytes = w.min_bytes;
-    max_bytes = w.max_bytes;
-    latest_stamp = w.latest_stamp;
-    stamp = stamp;
-    checksum_type = type;
-    chunk_size = chunk;
-  }
+  asked stamp type chunk = record (setup_for w) { stamp = stamp; checksum_type = type; chunk_size = chunk }
 
   merged : merge_all merge_setup no_setup (write_fields w) ≡ Ok (setup_for w)
   merged =

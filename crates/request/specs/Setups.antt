@@ -1,6 +1,6 @@
 -- What is read of a request that sets up a pipeline. Assumes nothing.
 use Rattle.std.specs.Borrow.{Bor}
-use Rattle.std.specs.Prelude.{ℕ, ◌-◌, cond, ◌&&◌, List, length, drop, Some, None, Ok, Err, Option, Result, ◌==◌, nat_le, slice_index}
+use Rattle.std.specs.Prelude.{ℕ, ◌-◌, if◌then◌else◌, ◌&&◌, List, length, drop, Some, None, Ok, Err, Option, Result, ◌==◌, nat_le, slice_index}
 use Rattle.wire.specs.declared.field.DecodeError.{DecodeError}
 use Rattle.wire.specs.declared.field.Fault.{Fault}
 use Rattle.wire.specs.declared.field.Fault.TheVariants.{WireType}
@@ -15,13 +15,13 @@ no_setup = record { stage = 0; pipeline_size = 0; min_bytes = 0; max_bytes = 0; 
 -- 4 stage, 5 pipelineSize, 6 minBytesRcvd, 7 maxBytesRcvd, 8 latestGenerationStamp; 1 and 9 are parts
 abbrev pub merge_number : Setup → ℕ → ℕ → Result Setup Fault
 merge_number s tag n =
-    cond (tag == 1) (Err WireType)
-    (cond (tag == 4) (Ok (record { stage = n; pipeline_size = s.pipeline_size; min_bytes = s.min_bytes; max_bytes = s.max_bytes; latest_stamp = s.latest_stamp; stamp = s.stamp; checksum_type = s.checksum_type; chunk_size = s.chunk_size }))
-    (cond (tag == 5) (Ok (record { stage = s.stage; pipeline_size = n; min_bytes = s.min_bytes; max_bytes = s.max_bytes; latest_stamp = s.latest_stamp; stamp = s.stamp; checksum_type = s.checksum_type; chunk_size = s.chunk_size }))
-    (cond (tag == 6) (Ok (record { stage = s.stage; pipeline_size = s.pipeline_size; min_bytes = n; max_bytes = s.max_bytes; latest_stamp = s.latest_stamp; stamp = s.stamp; checksum_type = s.checksum_type; chunk_size = s.chunk_size }))
-    (cond (tag == 7) (Ok (record { stage = s.stage; pipeline_size = s.pipeline_size; min_bytes = s.min_bytes; max_bytes = n; latest_stamp = s.latest_stamp; stamp = s.stamp; checksum_type = s.checksum_type; chunk_size = s.chunk_size }))
-    (cond (tag == 8) (Ok (record { stage = s.stage; pipeline_size = s.pipeline_size; min_bytes = s.min_bytes; max_bytes = s.max_bytes; latest_stamp = n; stamp = s.stamp; checksum_type = s.checksum_type; chunk_size = s.chunk_size }))
-    (cond (tag == 9) (Err WireType) (Ok s)))))))
+    if tag == 1 then Err WireType
+    else (if tag == 4 then Ok (record s { stage = n })
+    else (if tag == 5 then Ok (record s { pipeline_size = n })
+    else (if tag == 6 then Ok (record s { min_bytes = n })
+    else (if tag == 7 then Ok (record s { max_bytes = n })
+    else (if tag == 8 then Ok (record s { latest_stamp = n })
+    else (if tag == 9 then Err WireType else Ok s))))))
 
 -- the generation stamp of the block in the header, which is the third number of the first part of the first part of it
 abbrev pub stamp_in : List ℕ → ℕ
@@ -30,15 +30,24 @@ stamp_in header = number_of 3 (part_of 1 (part_of 1 header))
 -- 1 header, 9 requestedChecksum with its type and the chunks' size
 abbrev pub merge_part : Setup → ℕ → List ℕ → Result Setup Fault
 merge_part s tag bs =
-    cond (tag == 1) (Ok (record { stage = s.stage; pipeline_size = s.pipeline_size; min_bytes = s.min_bytes; max_bytes = s.max_bytes; latest_stamp = s.latest_stamp; stamp = stamp_in bs; checksum_type = s.checksum_type; chunk_size = s.chunk_size }))
-    (cond (tag == 4) (Err WireType) (cond (tag == 5) (Err WireType) (cond (tag == 6) (Err WireType) (cond (tag == 7) (Err WireType) (cond (tag == 8) (Err WireType)
-    (cond (tag == 9) (Ok (record { stage = s.stage; pipeline_size = s.pipeline_size; min_bytes = s.min_bytes; max_bytes = s.max_bytes; latest_stamp = s.latest_stamp; stamp = s.stamp; checksum_type = number_of 1 bs; chunk_size = number_of 2 bs })) (Ok s)))))))
+    if tag == 1 then Ok (record s { stamp = stamp_in bs })
+    else (if tag == 4 then Err WireType
+    else (if tag == 5 then Err WireType
+    else (if tag == 6 then Err WireType
+    else (if tag == 7 then Err WireType
+    else (if tag == 8 then Err WireType
+    else (if tag == 9 then Ok (record s { checksum_type = number_of 1 bs; chunk_size = number_of 2 bs }) else Ok s))))))
 
 -- none of these fields has a fixed width
 abbrev pub refuses : Setup → ℕ → Result Setup Fault
 refuses s tag =
-    cond (tag == 1) (Err WireType) (cond (tag == 4) (Err WireType) (cond (tag == 5) (Err WireType) (cond (tag == 6) (Err WireType)
-    (cond (tag == 7) (Err WireType) (cond (tag == 8) (Err WireType) (cond (tag == 9) (Err WireType) (Ok s)))))))
+    if tag == 1 then Err WireType
+    else (if tag == 4 then Err WireType
+    else (if tag == 5 then Err WireType
+    else (if tag == 6 then Err WireType
+    else (if tag == 7 then Err WireType
+    else (if tag == 8 then Err WireType
+    else (if tag == 9 then Err WireType else Ok s))))))
 
 abbrev pub merge_setup : Setup → WireField → Result Setup Fault
 merge_setup s (varint tag n) = merge_number s tag n
@@ -48,12 +57,14 @@ merge_setup s (fixed32 tag n) = refuses s tag
 
 -- version 28 in two octets, the code, a length, and a message that is just so long
 abbrev pub measured : List ℕ → Result (ℕ × ℕ) Fault → Option (List ℕ)
-measured bs (Ok x) = cond (x.0 == length bs - x.1) (Some (drop x.1 bs)) None
+measured bs (Ok x) = if x.0 == length bs - x.1 then Some (drop x.1 bs) else None
 measured bs (Err e) = None
 
 abbrev pub message_of : ℕ → List ℕ → Option (List ℕ)
 message_of code bs =
-    cond (nat_le 3 (length bs) && (slice_index bs 0 == 0 && (slice_index bs 1 == 28 && slice_index bs 2 == code))) (measured bs (varint_at 3 bs)) None
+    if nat_le 3 (length bs) && (slice_index bs 0 == 0 && (slice_index bs 1 == 28 && slice_index bs 2 == code))
+    then measured bs (varint_at 3 bs)
+    else None
 
 abbrev pub seen_part : Option (Bor (List ℕ)) → Option (List ℕ)
 seen_part (Some r) = Some r.now

@@ -23,8 +23,7 @@ struct Construction {
     latest_stamp: u64,
 }
 
-// Stays a macro, as those below: Rattle has no `impl Trait` as a result (it compiles and gets no proof), and as a named type the parts
-// would have to be written out in full.
+// A macro, as those below: a function that answers `impl Trait` gets no proof, and the type of the parts by its name is as long as they are.
 macro_rules! construction_parts {
     ($it:expr) => {
         Then(

@@ -15,7 +15,7 @@ const DATA_TRANSFER_VERSION: u16 = 28;
 pub trait Request: Message {
     const CODE: u8;
 
-    /// What `CODE` is to a contract. Stays beside `op`: for a type with a lifetime no ghost `CODE` can be proved equal to the constant.
+    /// What `CODE` is to a contract; `op` says so, since of a type with a lifetime no law can.
     ghost code: { ℕ };
 
     /// `CODE`, which ties it to what contracts say.
@@ -23,7 +23,7 @@ pub trait Request: Message {
         ensures { result ≡ code };
 
     /// The message's length, which is such that a buffer of 4,096 octets holds every request.
-    // Beside `encoded_len`, with a body for each: no law of a trait is made for a type with a lifetime, so the bound is a contract here.
+    // A method, since no law of a trait is made for a type with a lifetime: the bound is its contract.
     fn message_len(&self) -> usize
         ensures value { result ≡ length (encode_all (Self.Message.fields self.now)) }
         ensures bound { result ≤ 3728 };
@@ -31,9 +31,10 @@ pub trait Request: Message {
 
 /// Writes a request at the front of `out`: the version, the operation's code, and the message after its length. Where `out` is too short
 /// it stays as it was.
-// Answers a place: nothing is allocated, and the contract speaks of the whole buffer, in which the request ends there.
 pub fn send<R: Request>(request: &R, out: &mut [u8]) -> Option<usize>
-    ensures written { sent (framed R.Request.code (encode_all (R.Message.fields request.now))) out.old out.new result }
+    ensures written { sent
+        (framed R.Request.code (encode_all (R.Message.fields request.now)))
+        out.old out.new result }
     ensures suffices { 4096 ≤ length out.old → is_some result ≡ true }
 {
     let inner = request.message_len();

@@ -11,7 +11,7 @@ use wire::field::{Fault, Field};
 use wire::find::find;
 use wire::varint::read_varint;
 
-/// The numbers of an `OpWriteBlockProto` that a pipeline is set up by. They stay numbers: a far end may be sent a stage or a type that is not listed.
+/// The numbers of an `OpWriteBlockProto` that a pipeline is set up by. Numbers, since a far end may be sent a stage or a type that is not listed.
 #[derive(Clone, Copy, Debug, PartialEq, Eq)]
 pub struct Setup {
     pub stage: u64,
@@ -26,7 +26,7 @@ pub struct Setup {
 
 impl Setup {
     /// The set up that a whole request asks for, where the octets are such a request.
-    // An Option: whatever is wrong with a request, a far end takes it for lost.
+    // Whatever is wrong with a request, a far end takes it for lost.
     pub fn read(request: &[u8]) -> Option<Setup>
         ensures { result ≡ setup_of request.now }
     {
@@ -126,7 +126,6 @@ impl Merge for Setup {
 }
 
 // The message of a request behind version 28 and that code, a request kind's own constant, as long as its length says.
-// An Option, as that of `Setup::read`, which alone calls it: whatever is wrong with a request, a far end takes it for lost.
 fn message_of(request: &[u8], code: u8) -> Option<&[u8]>
     ensures { seen_part result ≡ message_of code request.now }
 {

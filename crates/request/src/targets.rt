@@ -7,8 +7,6 @@ use proto::datanode::Datanode;
 use wire::encode::{Bytes, OneField, Uint};
 use wire::row::RowField;
 
-// An impl for each: they differ in tag, kind and what is read of a datanode, and one for all would say each of these in its place.
-
 /// `targets`: each datanode.
 #[derive(Clone, Copy)]
 pub struct TargetInfo;

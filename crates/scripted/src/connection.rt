@@ -10,7 +10,7 @@ use std::collections::VecDeque;
 
 /// How a connection is.
 #[derive(Clone, Copy, PartialEq, Eq)]
-pub enum Line {
+pub enum ConnectionState {
     /// No connection was made yet, or it is gone.
     Closed,
     Open,
@@ -24,7 +24,7 @@ pub struct Connection {
     plans: LinkPlans,
     /// How many set ups were answered: the number of the connection.
     count: u64,
-    line: Line,
+    state: ConnectionState,
     incoming: VecDeque<Vec<u8>>,
     log: Log,
 }
@@ -34,7 +34,7 @@ impl Connection {
         Connection {
             plans: LinkPlans::new(heap),
             count: 0,
-            line: Line::Closed,
+            state: ConnectionState::Closed,
             incoming: VecDeque::new(heap),
             log,
         }
@@ -78,13 +78,13 @@ impl Connection {
     // A set up was answered: a new connection, on which nothing has come.
     pub(crate) fn connect(&mut self) {
         self.count = self.count.saturating_add(1);
-        self.line = Line::Open;
+        self.state = ConnectionState::Open;
         self.incoming.clear();
     }
 
     // Writes a frame down, where there is a connection.
     pub(crate) fn frame(&mut self, octets: &[u8]) -> Result<(), LinkLost> {
-        if self.line == Line::Closed {
+        if self.state == ConnectionState::Closed {
             return Err(LinkLost);
         }
         let octets = Vec::from_slice(self.log.heap(), octets).or(Err(LinkLost))?;
@@ -99,14 +99,14 @@ impl Connection {
     pub(crate) fn hear(&mut self) -> Result<Option<Vec<u8>>, LinkLost> {
         match self.incoming.pop_front() {
             Some(message) => Ok(Some(message)),
-            None if self.line == Line::Open => Ok(None),
+            None if self.state == ConnectionState::Open => Ok(None),
             None => Err(LinkLost),
         }
     }
 
     // An answer comes, where there is a connection for it.
     pub(crate) fn answer(&mut self, message: &[u8]) -> Result<(), AllocError> {
-        if self.line == Line::Open {
+        if self.state == ConnectionState::Open {
             self.incoming
                 .push_back(Vec::from_slice(self.log.heap(), message)?)?;
         }
@@ -115,14 +115,14 @@ impl Connection {
 
     // The connection is reset, and what has come on it is gone.
     pub(crate) fn reset(&mut self) {
-        self.line = Line::Closed;
+        self.state = ConnectionState::Closed;
         self.incoming.clear();
     }
 
     // The datanode sends no more.
     pub(crate) fn half_close(&mut self) {
-        if self.line == Line::Open {
-            self.line = Line::HalfClosed;
+        if self.state == ConnectionState::Open {
+            self.state = ConnectionState::HalfClosed;
         }
     }
 

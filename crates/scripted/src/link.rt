@@ -1,18 +1,18 @@
 //! A link that follows a script: its packets are kept by a spool, and what is answered is the script's.
 ghost use Rattle.std.specs.Prelude.{◌≡◌, ◌≤◌, length};
-ghost use Rattle.ack.specs.Held.{ack_read};
+ghost use Rattle.ack.specs.Verdicts.{passes};
 ghost use Rattle.chain.specs.Acts.{Front};
-ghost use Rattle.spool.specs.Spools.{view_of, seen_in};
+ghost use Rattle.spool.specs.Spools.{spool_view, seen_in};
 ghost use Rattle.spool.specs.Meaning.{whole_of};
 ghost use Rattle.scripted.specs.Links;
-ghost use Rattle.scripted.specs.Links.{Sets, Puts, Nexts, Confirms, number_in};
+ghost use Rattle.scripted.specs.Links.{Sets, Puts, Nexts, Confirms};
 ghost use Rattle.std.proofs.Common.{ap};
 
 use crate::connection::Connection;
 use crate::event::Noted;
 use crate::log::Log;
 use crate::plans::{LinkPlans, Reply};
-use ack::ack::PipelineAck;
+use ack::ack::passing;
 use chain::link::{Link, LinkLost};
 use chain::meaning::Chain;
 use proto::datanode::Datanode;
@@ -30,16 +30,6 @@ const GOOD: [u8; 2] = [0x08, 0x00];
 pub struct ScriptedLink {
     pub(crate) spool: Spool,
     pub(crate) connection: Connection,
-}
-
-// The number of an answer that passes.
-fn passing(message: &[u8]) -> Option<u64>
-    ensures { result ≡ number_in (ack_read message.now) }
-{
-    match PipelineAck::read(message) {
-        Ok(ack) if ack.replies.failed.count == 0 => Some(ack.seqno),
-        Ok(_) | Err(_) => None,
-    }
 }
 
 // Lays a message at the front of a buffer, and says how many octets it has.
@@ -100,7 +90,8 @@ impl ScriptedLink {
 
     // An answer that passes with the first waiting packet's number confirms that packet.
     fn heed(&mut self, message: &[u8])
-        ensures { Confirms (number_in (ack_read message.now)) (view_of self.old.spool).held (view_of self.old.spool) (view_of self.new.spool) }
+        ensures { Confirms (passes message.now) (spool_view self.old.spool).pending
+            (spool_view self.old.spool) (spool_view self.new.spool) }
     {
         let number = passing(message);
         if number.is_some() && number == self.spool.first() {
@@ -110,13 +101,14 @@ impl ScriptedLink {
 }
 
 impl Link for ScriptedLink {
-    ghost sets = { λ a node request least came b. Sets (view_of a.spool) request least came (view_of b.spool) };
+    ghost sets = { λ a node request least came b.
+        Sets (spool_view a.spool) request least came (spool_view b.spool) };
 
-    ghost puts = { λ a frame taken b. Puts (view_of a.spool) frame taken (view_of b.spool) };
+    ghost puts = { λ a frame taken b. Puts (spool_view a.spool) frame taken (spool_view b.spool) };
 
-    ghost nexts = { λ a came b. Nexts (view_of a.spool) came (view_of b.spool) };
+    ghost nexts = { λ a came b. Nexts (spool_view a.spool) came (spool_view b.spool) };
 
-    ghost transfers = { λ a node request came b. view_of b.spool ≡ view_of a.spool };
+    ghost transfers = { λ a node request came b. spool_view b.spool ≡ spool_view a.spool };
 
     fn set_up(
         &mut self,
@@ -170,13 +162,16 @@ impl Link for ScriptedLink {
 }
 
 impl Chain for ScriptedLink {
-    ghost seen = { λ l. seen_in (view_of l.spool) };
+    ghost seen = { λ l. seen_in (spool_view l.spool) };
 
-    ghost setting = { λ a b node request least came e. Links.setting (whole_of a.spool) (view_of b.spool) request least came e };
+    ghost setting = { λ a b node request least came e.
+        Links.setting (whole_of a.spool) (spool_view b.spool) request least came e };
 
-    ghost putting = { λ a b frame taken e. Links.putting (whole_of a.spool) (view_of b.spool) frame taken e };
+    ghost putting = { λ a b frame taken e.
+        Links.putting (whole_of a.spool) (spool_view b.spool) frame taken e };
 
-    ghost answering = { λ a b came e. Links.answering (view_of a.spool) (view_of b.spool) came (whole_of a.spool) e };
+    ghost answering = { λ a b came e.
+        Links.answering (spool_view a.spool) (spool_view b.spool) came (whole_of a.spool) e };
 
     ghost transferring = { λ a b node request came e. ap seen_in e };
 }

@@ -94,7 +94,8 @@ impl NamenodeProtocol for ScriptedNamenode {
 
     ghost stamps = { λ a size came b. house_of b.house ≡ house_of a.house };
 
-    ghost updates = { λ a new accepted b. Updated new accepted (house_of a.house) (house_of b.house) };
+    ghost updates = { λ a new accepted b.
+        Updated new accepted (house_of a.house) (house_of b.house) };
 
     fn get_additional_datanode(
         &mut self,

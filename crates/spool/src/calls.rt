@@ -3,7 +3,7 @@ ghost use Rattle.std.specs.Prelude.{◌≡◌, ◌≤◌, cond, ◌&&◌, length
 ghost use Rattle.ack.specs.Written.{answered};
 ghost use Rattle.request.specs.Setups.{setup_of};
 ghost use Rattle.chain.specs.Acts.{Replied, Answered};
-ghost use Rattle.spool.specs.Spools.{view_of, seen_in, sets_up};
+ghost use Rattle.spool.specs.Spools.{spool_view, seen_in, sets_up};
 ghost use Rattle.spool.specs.Calls.{Sets, Puts, Nexts, Transfers, responded};
 ghost use Rattle.spool.specs.Meaning.{whole_of};
 ghost use Rattle.spool.specs.Meaning;
@@ -19,7 +19,6 @@ use proto::datanode::Datanode;
 use request::setup::Setup;
 
 // The response of status 0, at the front of `answer`.
-// The length is told beside the answer's buffer, as `Link` wants it: nothing is allocated, and the contract speaks of the whole buffer.
 fn respond(answer: &mut [u8]) -> Result<usize, LinkLost>
     ensures { responded answer.old answer.new result }
 {
@@ -32,7 +31,6 @@ fn respond(answer: &mut [u8]) -> Result<usize, LinkLost>
 }
 
 // An answer in which every node says that it has the packet.
-// Answers the length beside the answer's buffer, as `write_ack` does, whose answer it hands on.
 fn write_good(answer: &mut [u8], seqno: u64, nodes: usize) -> Option<usize>
     requires { nodes ≤ 8 }
     ensures { answered seqno (replicate nodes 0) answer.old answer.new result }
@@ -42,13 +40,14 @@ fn write_good(answer: &mut [u8], seqno: u64, nodes: usize) -> Option<usize>
 }
 
 impl Link for Spool {
-    ghost sets = { λ a node request least came b. Sets (view_of a) request least came (view_of b) };
+    ghost sets = { λ a node request least came b.
+        Sets (spool_view a) request least came (spool_view b) };
 
-    ghost puts = { λ a frame taken b. Puts (view_of a) frame taken (view_of b) };
+    ghost puts = { λ a frame taken b. Puts (spool_view a) frame taken (spool_view b) };
 
-    ghost nexts = { λ a came b. Nexts (view_of a) came (view_of b) };
+    ghost nexts = { λ a came b. Nexts (spool_view a) came (spool_view b) };
 
-    ghost transfers = { λ a node request came b. Transfers (view_of a) came (view_of b) };
+    ghost transfers = { λ a node request came b. Transfers (spool_view a) came (spool_view b) };
 
     fn set_up(
         &mut self,
@@ -78,7 +77,7 @@ impl Link for Spool {
     }
 
     fn next(&mut self, answer: &mut [u8]) -> Result<Option<usize>, LinkLost> {
-        let Some(first) = self.held.front() else {
+        let Some(first) = self.pending.front() else {
             return Ok(None);
         };
         let len = write_good(answer, first.seqno, self.nodes as usize).ok_or(LinkLost)?;
@@ -97,13 +96,16 @@ impl Link for Spool {
 }
 
 impl Chain for Spool {
-    ghost seen = { λ s. seen_in (view_of s) };
+    ghost seen = { λ s. seen_in (spool_view s) };
 
-    ghost setting = { λ a b node request least came e. Meaning.setting (whole_of a) (view_of b) request least came e };
+    ghost setting = { λ a b node request least came e.
+        Meaning.setting (whole_of a) (spool_view b) request least came e };
 
-    ghost putting = { λ a b frame taken e. Meaning.putting (whole_of a) (view_of b) frame taken e };
+    ghost putting = { λ a b frame taken e.
+        Meaning.putting (whole_of a) (spool_view b) frame taken e };
 
-    ghost answering = { λ a b came e. Meaning.answering (view_of a) (view_of b) came (whole_of a) e };
+    ghost answering = { λ a b came e.
+        Meaning.answering (spool_view a) (spool_view b) came (whole_of a) e };
 
     ghost transferring = { Prim.search rules };
 }

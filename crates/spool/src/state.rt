@@ -16,17 +16,17 @@ pub const NODES: u64 = 8;
 #[derive(Drop)]
 pub struct Spool {
     pub(crate) bytes: Vec<u8>,
-    pub(crate) held: VecDeque<Pending>,
-    // Beside `bytes`, and no buffer of its own: a confirmed packet's bytes stay where they lie, and a confirmation copies nothing.
+    pub(crate) pending: VecDeque<Pending>,
+    // How many of `bytes` are confirmed: a confirmation copies nothing.
     pub(crate) kept: usize,
     pub(crate) limit: usize,
     pub(crate) most: u64,
     pub(crate) nodes: u64,
     pub(crate) chunk: u32,
-    ghost adds: { kept + total held.items ≡ vec_len bytes },
+    ghost adds: { kept + total pending.items ≡ vec_len bytes },
     ghost room: { limit ≤ vec_capacity bytes },
-    ghost places: { 128 ≤ deque_capacity held },
+    ghost places: { 128 ≤ deque_capacity pending },
     ghost few: { most ≤ 8 },
     ghost fewer: { nodes ≤ 8 },
-    ghost widths: { numbered held.items ≡ true },
+    ghost widths: { numbered pending.items ≡ true },
 }

@@ -19,14 +19,14 @@ abbrev pub Fit : ℕ → ℕ → Type 0
 Fit t b = ((t ≡ 9) × (b ≤ 1)) ⊎ (t ≡ 9 → ⊥)
 
 -- the facts of one turn
-pub record Turn (t v b d : ℕ) : Type 0 where
+pub record VarintTurn (t v b d : ℕ) : Type 0 where
   pub under : t < 10
   pub low : v < 2 ^ (7 * t)
   pub fit : Fit t b
   pub byte : b < 256
   pub digit : d ≡ bit_and b 127
 
-module _ {t v b d : ℕ} (h : Turn t v b d) where
+module _ {t v b d : ℕ} (h : VarintTurn t v b d) where
   is_rest : d ≡ b % 128
   is_rest = h.digit ∙ and_mask b 7
 

@@ -32,8 +32,7 @@ fn put_pair(out: &mut [u8], first: &[u8], second: &[u8])
     out[middle..size].copy_from_slice(second);
 }
 
-// A key: the tag, and the wire type in the lowest three bits. An enum would be no plainer: each call names the type beside the tag, as
-// the wire format does, and its numbers 0, 1, 2 and 5 stand so in the definition of a key.
+// A key: the tag, and the wire type in the lowest three bits.
 fn key_len(tag: u32, wire_type: u64) -> usize
     requires { wire_type < 8 }
     ensures value { result ≡ length (key tag wire_type) }
@@ -177,7 +176,7 @@ impl<A: Message, B: Message> Message for Then<A, B> {
 
 /// One field, of any kind.
 #[derive(Clone, Copy)]
-// Beside `Field`, which is read and has a place in its message: a field that is to be written has none yet.
+// `Field` is a field that was read, and has a place in its message; this one has none yet.
 pub enum OneField<'a> {
     Uint(Uint),
     Fixed64 { tag: u32, value: u64 },
@@ -208,7 +207,7 @@ impl<'a> Message for OneField<'a> {
 }
 
 /// How one row of a table is written as a field.
-// Beside `RowField`, whose rows each hand one field out: a row that is written otherwise says its length and its octets itself.
+// Where a row hands its field out, as by `RowField`, `ByField` is an impl of this.
 pub trait FieldOf<T> {
     ghost field: { T → WireField };
 
@@ -233,7 +232,7 @@ impl<'a, T, F: FieldOf<T>> Message for Each<'a, T, F> {
 
     fn encoded_len(&self) -> usize {
         let mut size = 0;
-        // Stays a loop: that each field is within the message is known row by row, and a chain's `sum` asks for it beforehand.
+        // A loop, since that the length fits is known row by row, and `sum` asks for it beforehand.
         for row in self.rows {
             size += F::field_len(row);
         }
@@ -241,7 +240,6 @@ impl<'a, T, F: FieldOf<T>> Message for Each<'a, T, F> {
     }
 
     fn encode(&self, out: &mut [u8]) {
-        // A running place: each row's octets have a length of their own, and no iterator of the library cuts a buffer so.
         let mut at = 0;
         for row in self.rows {
             let next = at + F::field_len(row);

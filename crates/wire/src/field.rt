@@ -53,7 +53,6 @@ impl fmt::Display for DecodeError {
 impl Error for DecodeError {}
 
 /// A field of a message. `place` is where its key begins.
-// `tag` and `place` stand in each variant: the project wants an enum of wire fields, each with its own.
 #[derive(Clone, Copy)]
 pub enum Field<'a> {
     Varint {
@@ -103,8 +102,7 @@ impl Field<'_> {
     }
 }
 
-// The `N` octets at `at`, and the place past them. No helper is shared with `array_at` of other crates: this one may find too few octets.
-// Answers the place too, as `read_field` does, where the reading of the field goes on.
+// The `N` octets at `at`, if there are so many, and the place past them.
 fn fixed<const N: usize>(input: &[u8], at: usize) -> Result<([u8; N], usize), Fault>
     ensures value { and_then result (λ x. Ok (from_little x.0, x.1)) ≡ fixed_at N at input.now }
     ensures within { IfOk result (λ x. (at + N ≡ x.1) × (x.1 ≤ length input.now)) }
@@ -127,13 +125,15 @@ fn tag_of(key: u64) -> Result<u32, Fault>
 
 /// The field whose key stands at `at`, and the place past it. First the value is read, then the tag is looked at, then the wire type.
 #[tactic(auto, using(crate::proofs::Words::word_four, crate::proofs::Words::word_eight), unfolding(crate::specs::Read::read_field))]
-// A message and a place, and no rest of the message: a fault is told by its place, and the place past the field is asked for.
 pub fn read_field(input: &[u8], at: usize) -> Result<(Field<'_>, usize), Fault>
     ensures value { seen result ≡ read_field at input.now }
-    ensures within { IfOk result (λ x. (place_of x.0 ≡ at) × (at < x.1) × (at + weight (wire x.0) ≤ x.1) × (x.1 ≤ length input.now)) }
+    ensures within { IfOk result
+        (λ x. (place_of x.0 ≡ at)
+        × (at < x.1)
+        × (at + weight (wire x.0) ≤ x.1)
+        × (x.1 ≤ length input.now)) }
 {
     let (key, here) = read_varint(input, at)?;
-    // The wire types stay numbers: an enum of them would be made of the key here, and matched at once and nowhere else.
     match key % 8 {
         0 => {
             let (value, next) = read_varint(input, here)?;

@@ -28,7 +28,6 @@ pub trait Wanted<'a>: Copy {
 }
 
 /// The last value of that tag: what stands for an absent one where there is none, or where the message has a fault.
-// Answers a value and no Option: a field that is absent means 0 or no octets, and every caller would put these in place of a `None`.
 pub fn find<'a, V: Wanted<'a>>(input: &'a [u8], tag: u32) -> V
     ensures { V.view result ≡ found V.pick V.absent tag input.now }
 {

@@ -26,9 +26,11 @@ impl VarintReader {
 
     /// Takes one octet more, and gives the value where the varint is whole with it. The next octet then begins another varint.
     pub fn feed(&mut self, b: u8) -> Result<Option<u64>, Fault>
-        ensures step { step_told self.new.low self.new.turn result ≡ step_of self.old.low self.old.turn b }
+        ensures step { step_told self.new.low self.new.turn result
+            ≡ step_of self.old.low self.old.turn b }
         ensures sound { IfOk (step_told self.new.low self.new.turn result) Sound }
-        ensures anew { IfOk result (λ whole. IfSome whole (λ _. (self.new.low ≡ 0) × (self.new.turn ≡ 0))) }
+        ensures anew { IfOk result
+            (λ whole. IfSome whole (λ _. (self.new.low ≡ 0) × (self.new.turn ≡ 0))) }
         ensures kept { IfErr result (λ _. self.new ≡ self.old) }
     {
         if self.turn == 9 && b > 1 {
@@ -56,7 +58,6 @@ impl VarintReader {
 
 /// The varint at `at`, of at most ten octets and below 2^64, and the place past it.
 #[tactic(auto, unfolding(crate::specs::Read::varint_at))]
-// A message and a place, as `read_field`, which goes on at the place past the varint.
 pub fn read_varint(input: &[u8], at: usize) -> Result<(u64, usize), Fault>
     ensures value { result ≡ varint_at at input.now }
     ensures within { IfOk result (λ x. (at < x.1) × (x.1 ≤ length input.now)) }
@@ -72,7 +73,7 @@ pub fn read_varint(input: &[u8], at: usize) -> Result<(u64, usize), Fault>
 }
 
 /// A varint as it is written: the first `len` of `octets`.
-// Stays a buffer with its length: it is Copy and allocates nothing, and contracts name its length and its octets.
+// A buffer with its length: nothing is allocated, and contracts name its length and its octets.
 #[derive(Clone, Copy)]
 pub struct EncodedVarint {
     octets: [u8; 10],
@@ -82,7 +83,6 @@ pub struct EncodedVarint {
 
 impl EncodedVarint {
     /// The shortest varint of a value.
-    // Not `From`: a maker with a name says that, of the varints of a value, it is the shortest.
     pub fn of(value: u64) -> EncodedVarint
         ensures value { take result.len result.octets ≡ varint_bytes value }
         ensures size { result.len ≡ length (varint_bytes value) }
@@ -90,7 +90,6 @@ impl EncodedVarint {
         let mut octets = [0u8; 10];
         let mut rest = value;
         let mut len = 0;
-        // Stays a loop: it ends where the rest is small, and not at an octet.
         while rest >= 0x80 {
             octets[len] = (rest & 0x7f) as u8 | 0x80;
             rest >>= 7;

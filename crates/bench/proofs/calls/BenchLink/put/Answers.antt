@@ -1,7 +1,7 @@
 use Rattle.std.proofs.Common.{◌≡◌, ◌++◌, map, length, vec_items, vec_len, ap, ◌∙◌}
 use Rattle.std.proofs.lemmas.List.{take_at}
 use Rattle.std.proofs.lemmas.Bool.{cond-true, cond-false, eq-eqb, ne_eqb}
-use Rattle.spool.specs.Spools.{view_of}
+use Rattle.spool.specs.Spools.{spool_view}
 use Rattle.bench.specs.Replicas.{copies, mirrored}
 use Rattle.bench.specs.Mirrors.{mirrored_more, put_bytes}
 use Rattle.bench.proofs.calls.BenchLink.put.Goals as goal
@@ -9,8 +9,8 @@ use Rattle.bench.proofs.calls.BenchLink.put.Goals as goal
 pub invariant_of-self-then-packet : goal.invariant_of-self-then-packet
 invariant_of-self-then-packet c =
     let s = c.args.self.now in
-    let v = view_of s.lead in
-    let w = view_of c.put.new.self in
+    let v = spool_view s.lead in
+    let w = spool_view c.put.new.self in
     let ws = c.append_all.new.replicas in
     let d = c.in_ok-packet.field-0.packet.«data».now in
     let read = rw c.in_ok-packet.ensures.ok_part at c.read_frame.ensures in
@@ -24,5 +24,5 @@ pub invariant_of-self-else-packet : goal.invariant_of-self-else-packet
 invariant_of-self-else-packet c =
     let s = c.args.self.now in
     let read = rw c.in_ok-packet.ensures.ok_part at c.read_frame.ensures in
-    let bytes = put_bytes (view_of s.lead) (view_of c.put.new.self) c.args.frame.now _ read c.in_ok-put.ensures ∙ cond-true _ _ _ (eq-eqb _ _ c.if-packet.false) in
+    let bytes = put_bytes (spool_view s.lead) (spool_view c.put.new.self) c.args.frame.now _ read c.in_ok-put.ensures ∙ cond-true _ _ _ (eq-eqb _ _ c.if-packet.false) in
     record { same = ap (λ z. mirrored z (copies (vec_items s.mirrors))) bytes ∙ s.same }

@@ -2,7 +2,7 @@ use Rattle.std.proofs.Common.{◌≡◌, ◌-◌, ◌≤◌, Ok, Some, length, t
 use Rattle.std.proofs.lemmas.List.{length-take, take-take}
 use Rattle.std.proofs.lemmas.Result.{IfOk-at_ok}
 use Rattle.request.specs.Setups.{setup_of}
-use Rattle.spool.specs.Spools.{view_of}
+use Rattle.spool.specs.Spools.{spool_view}
 use Rattle.bench.specs.Replicas.{mirrored}
 use Rattle.bench.specs.Mirrors.{mirrored_new, set_bytes}
 use Rattle.bench.proofs.calls.BenchLink.set_up.Goals as goal
@@ -10,9 +10,9 @@ use Rattle.bench.proofs.calls.BenchLink.set_up.Goals as goal
 pub invariant_of-self-2 : goal.invariant_of-self-2
 invariant_of-self-2 c =
     let s = c.args.self.now.lead in
-    let v = view_of s in
+    let v = spool_view s in
     let least = c.args.least in
-    let w = view_of c.set_up.new.self in
+    let w = spool_view c.set_up.new.self in
     let ok : c.copies_of.result ≡ Ok c.in_ok-mirrors.mirrors = grind arith in
     let made = IfOk-at_ok _ ok c.copies_of.ensures in
     let setup : Some c.in_ok-setup.setup ≡ setup_of c.args.request.now = sym c.in_ok-setup.ensures.ok_part ∙ c.read.ensures in

@@ -1,10 +1,10 @@
 use Rattle.std.proofs.Common.{◌+◌, Ok, ap, ◌∙◌, arith}
 use Rattle.wire.specs.Steps.{More, Whole}
-use Rattle.wire.proofs.Varints.{Turn, joins, last, goes, grows, room, not_tenth}
+use Rattle.wire.proofs.Varints.{VarintTurn, joins, last, goes, grows, room, not_tenth}
 use Rattle.wire.proofs.varint.VarintReader.feed.Goals as goal
 use Rattle.wire.proofs.varint.VarintReader.feed.Goals.{After-from}
 
-turn : (c : After-from) → Turn c.args.self.now.turn c.args.self.now.low c.args.b c.from.result
+turn : (c : After-from) → VarintTurn c.args.self.now.turn c.args.self.now.low c.args.b c.from.result
 turn c = record {
   under = c.args.self.now.few;
   low = c.args.self.now.small;
