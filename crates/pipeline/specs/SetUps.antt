@@ -52,5 +52,5 @@ module _ {L : Type 0} (acts : Link.Ghosts L) where
     pub sent : t.request ≡ octets_of message ++ drop (length (octets_of message)) s.request
     pub reply : Asked
         (λ came. acts.sets s.link message.first.now (octets_of message) wanted.min_bytes came
-          t.link)
+        t.link)
         s.answer t.answer r

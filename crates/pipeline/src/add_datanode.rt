@@ -91,10 +91,8 @@ impl<'a, L: Link> Channel<'a, L> {
         list: &'b [Datanode],
         old: &[Datanode],
     ) -> Result<(usize, usize), NoDatanode>
-        ensures acts {
-            Copies L.Link header.entry list.now (choice_of list.now old.now)
-                (channel_view self.old) result
-                (channel_view self.new) }
+        ensures acts { Copies L.Link header.entry list.now (choice_of list.now old.now)
+            (channel_view self.old) result (channel_view self.new) }
         ensures same { SameLoans self.old self.new }
     {
         let (new, source) = choose(list, old)?;
@@ -117,10 +115,9 @@ impl<'a, L: Link> Channel<'a, L> {
         gone: &[Datanode],
         list: &mut NodeTable,
     ) -> Result<(usize, usize), NoDatanode>
-        ensures acts {
-            Adds L.Link N.NamenodeProtocol block client_name.now old.now left.now gone.now
-                list.old.rows.items list.new.rows.items
-                (channel_view self.old) namenode.old result (channel_view self.new) namenode.new }
+        ensures acts { Adds L.Link N.NamenodeProtocol block client_name.now
+            old.now left.now gone.now list.old.rows.items list.new.rows.items
+            (channel_view self.old) namenode.old result (channel_view self.new) namenode.new }
         ensures same { SameLoans self.old self.new }
         ensures within { Within list.new.rows.items result }
         ensures capacity { vec_capacity list.new.rows ≡ vec_capacity list.old.rows }

@@ -39,9 +39,8 @@ impl NodeTable {
     /// One row, to be changed.
     fn row(&mut self, i: usize) -> &mut Datanode
         requires { i < vec_len self.old.rows }
-        ensures* follows {
-            sem 𝓛 (follows the_row Node-row self.entry.ghost_name result.ghost_name
-                (λ w. record { rows = with_item self.old.rows i w; room = self.old.room })) }
+        ensures* follows { sem 𝓛 (follows the_row Node-row self.entry.ghost_name result.ghost_name
+            (λ w. record { rows = with_item self.old.rows i w; room = self.old.room })) }
         ensures value { result.now ≡ slice_index_or self.old.rows.items i result.now }
     {
         &mut self.rows[i]

@@ -19,8 +19,8 @@ pub fn read_node(row: Offered<'_>) -> Option<Datanode>
 // Puts the datanodes of the list into the table, where all of them are in form. An Option of nothing, since there is one way to fail.
 fn read_rows<N: NamenodeProtocol>(namenode: &N, list: &mut NodeTable) -> Option<()>
     requires { length (N.NamenodeProtocol.offer namenode.now).rows ≤ vec_capacity list.old.rows }
-    ensures rows {
-        RowsRead (N.NamenodeProtocol.offer namenode.now).rows list.new.rows.items (is_some result) }
+    ensures rows { RowsRead (N.NamenodeProtocol.offer namenode.now).rows list.new.rows.items
+        (is_some result) }
     ensures capacity { vec_capacity list.new.rows ≡ vec_capacity list.old.rows }
 {
     list.clear();

@@ -50,9 +50,9 @@ fn send_set_up<'a, L: Link>(
     answer: &mut [u8],
 ) -> Result<(), ReplyError>
     requires { (1 ≤ length nodes.now) × ((length nodes.now ≤ 8) × (4096 ≤ length request.old)) }
-    ensures {
-        SetsUp L.Link wanted.entry nodes.now (channel_over link.old request.old answer.old) result
-            (channel_over link.new request.new answer.new) }
+    ensures { SetsUp L.Link wanted.entry nodes.now
+        (channel_over link.old request.old answer.old) result
+        (channel_over link.new request.new answer.new) }
 {
     let message = request_for(wanted, nodes);
     let end = write_request(&message, request);
@@ -71,9 +71,8 @@ impl<'a, L: Link> Channel<'a, L> {
         wanted: SetupRequest<'b>,
     ) -> Result<(), ReplyError>
         requires { (1 ≤ length nodes.now) × (length nodes.now ≤ 8) }
-        ensures acts {
-            SetsUp L.Link wanted.entry nodes.now (channel_view self.old) result
-                (channel_view self.new) }
+        ensures acts { SetsUp L.Link wanted.entry nodes.now (channel_view self.old) result
+            (channel_view self.new) }
         ensures same { SameLoans self.old self.new }
     {
         send_set_up(self.link, nodes, wanted, self.request, self.answer)

@@ -8,16 +8,14 @@ use proto::datanode::Datanode;
 
 // Puts a datanode behind those that are gone or behind those that are left.
 fn assign(node: &Datanode, is_failed: bool, left: &mut NodeTable, gone: &mut NodeTable)
-    requires {
-        (vec_len left.old.rows < vec_capacity left.old.rows)
-            × (vec_len gone.old.rows < vec_capacity gone.old.rows) }
-    ensures left {
-        left.new.rows.items ≡ left.old.rows.items ++ survivors (is_failed ∷ []) (node.now ∷ []) }
-    ensures gone {
-        gone.new.rows.items ≡ gone.old.rows.items ++ failed_of (is_failed ∷ []) (node.now ∷ []) }
-    ensures rooms {
-        (vec_capacity left.new.rows ≡ vec_capacity left.old.rows)
-            × (vec_capacity gone.new.rows ≡ vec_capacity gone.old.rows) }
+    requires { (vec_len left.old.rows < vec_capacity left.old.rows)
+        × (vec_len gone.old.rows < vec_capacity gone.old.rows) }
+    ensures left { left.new.rows.items
+        ≡ left.old.rows.items ++ survivors (is_failed ∷ []) (node.now ∷ []) }
+    ensures gone { gone.new.rows.items
+        ≡ gone.old.rows.items ++ failed_of (is_failed ∷ []) (node.now ∷ []) }
+    ensures rooms { (vec_capacity left.new.rows ≡ vec_capacity left.old.rows)
+        × (vec_capacity gone.new.rows ≡ vec_capacity gone.old.rows) }
 {
     if is_failed {
         gone.push(node);
@@ -33,9 +31,8 @@ pub fn split(nodes: &[Datanode], failed: &FailedNodes, left: &mut NodeTable, gon
     ensures left { left.new.rows.items ≡ survivors failed.now.positions nodes.now }
     ensures gone { gone.new.rows.items ≡ failed_of failed.now.positions nodes.now }
     ensures few { (vec_len left.new.rows ≤ 8) × (vec_len gone.new.rows ≤ 8) }
-    ensures rooms {
-        (vec_capacity left.new.rows ≡ vec_capacity left.old.rows)
-            × (vec_capacity gone.new.rows ≡ vec_capacity gone.old.rows) }
+    ensures rooms { (vec_capacity left.new.rows ≡ vec_capacity left.old.rows)
+        × (vec_capacity gone.new.rows ≡ vec_capacity gone.old.rows) }
 {
     left.clear();
     gone.clear();

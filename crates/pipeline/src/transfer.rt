@@ -22,10 +22,9 @@ fn send_transfer<'a, L: Link>(
     answer: &mut [u8],
 ) -> Result<(), ReplyError>
     requires { 4096 ≤ length request.old }
-    ensures {
-        Transfers L.Link header.entry source.now target.now
-            (channel_over link.old request.old answer.old) result
-            (channel_over link.new request.new answer.new) }
+    ensures { Transfers L.Link header.entry source.now target.now
+        (channel_over link.old request.old answer.old) result
+        (channel_over link.new request.new answer.new) }
 {
     let message = TransferBlock { header, target };
     let end = write_request(&message, request);
@@ -44,9 +43,8 @@ impl<'a, L: Link> Channel<'a, L> {
         source: &Datanode,
         target: &'b Datanode,
     ) -> Result<(), ReplyError>
-        ensures acts {
-            Transfers L.Link header.entry source.now target.now (channel_view self.old) result
-                (channel_view self.new) }
+        ensures acts { Transfers L.Link header.entry source.now target.now
+            (channel_view self.old) result (channel_view self.new) }
         ensures same { SameLoans self.old self.new }
     {
         send_transfer(self.link, header, source, target, self.request, self.answer)

@@ -12,9 +12,8 @@ pub const REQUEST_ROOM: usize = 4096;
 // A place beside the buffer: nothing is allocated, and the contract speaks of the whole buffer, in which the request ends there.
 pub(crate) fn write_request<R: Request>(message: &R, out: &mut [u8]) -> usize
     requires { 4096 ≤ length out.old }
-    ensures {
-        sent (framed R.Request.code (encode_all (R.Message.fields message.now)))
-            out.old out.new (Some result) }
+    ensures { sent (framed R.Request.code (encode_all (R.Message.fields message.now)))
+        out.old out.new (Some result) }
 {
     send(message, out).unwrap()
 }

@@ -29,7 +29,7 @@ use Rattle.writer.specs.Refusals.{or_else}
 use Rattle.writer.specs.States.{ended, listens}
 use Rattle.writer.specs.Views.{View}
 use Rattle.runs.specs.History.{History, numbers, heard}
-use Rattle.runs.proofs.Heeds.{heard_none, same, other, first_small, confirm_keeps, complete_keeps}
+use Rattle.runs.proofs.Heeds.{same, other, first_small, confirm_keeps, complete_keeps}
 use Rattle.runs.proofs.Invariant.{Fit, Holds}
 use Rattle.runs.proofs.Means.{MeansChain}
 use Rattle.runs.proofs.Keeps.{Keeps}

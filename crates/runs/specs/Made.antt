@@ -1,6 +1,6 @@
 -- What a client made of a list of commands: all calls for which there were places, in order, what each answered, and that
 -- the law holds of what they leave. Assumes nothing.
-use Rattle.std.specs.Prelude.{◌≡◌, ℕ, min, List, ◌++◌, length, map, take, drop, Some, Option}
+use Rattle.std.specs.Prelude.{◌≡◌, min, List, ◌++◌, length, map, take, drop, Some, Option}
 use Rattle.chain.specs.declared.link.Link as Link
 use Rattle.chain.specs.Meaning.{Seen}
 use Rattle.namenode.specs.declared.protocol.NamenodeProtocol as Namenode

@@ -54,57 +54,64 @@ module _ {C N : Type 0} (acts : Link.Ghosts C) (asks : Namenode.Ghosts N) (seen 
         (r : Result Written Refusal) (w : Writer) (c : C)
         → Lends q.store store' given given'
         → UnlessRefused
-          (refusal_for (view_of q.writer) call.Write (lengths_of given frame request answer))
-          (Wrote acts bytes.now)
-          (streamer_of q.writer given frame q.link) r (streamer_of w given' frame' c)
+        (refusal_for (view_of q.writer) call.Write (lengths_of given frame request answer))
+        (Wrote acts bytes.now)
+        (streamer_of q.writer given frame q.link) r (streamer_of w given' frame' c)
         → Step (command.Write bytes) q (outcome.Wrote r)
-          (record q { history = wrote q.history bytes.now r; writer = w; store = store'; link = c })
+        (record q { history = wrote q.history bytes.now r; writer = w; store = store'; link = c })
     heeds : {q : Point C N} (given frame request answer answer' store' : List ℕ)
         (r : Result Heeded Refusal) (w : Writer) (c : C)
         → Lends q.store store' given given
         → UnlessRefused
-          (refusal_for (view_of q.writer) call.Heed (lengths_of given frame request answer))
-          (Heeds acts)
-          (listener_of q.writer q.link answer) r (listener_of w c answer')
+        (refusal_for (view_of q.writer) call.Heed (lengths_of given frame request answer))
+        (Heeds acts)
+        (listener_of q.writer q.link answer) r (listener_of w c answer')
         → Step command.Heed q (outcome.Heard r)
-          (record q {
-            history = heard q.history (seen q.link).pending (seen c).pending r;
-            writer = w; store = store'; link = c })
+        (record q {
+          history = heard q.history (seen q.link).pending (seen c).pending r;
+          writer = w;
+          store = store';
+          link = c;
+        })
     beats : {q : Point C N} (time : ℕ) (given frame frame' request answer store' : List ℕ)
         (r : Result Beat Refusal) (w : Writer) (c : C)
         → Lends q.store store' given given
         → UnlessRefused
-          (refusal_for (view_of q.writer) call.Beat (lengths_of given frame request answer))
-          (Beats acts time)
-          (streamer_of q.writer given frame q.link) r (streamer_of w given frame' c)
+        (refusal_for (view_of q.writer) call.Beat (lengths_of given frame request answer))
+        (Beats acts time)
+        (streamer_of q.writer given frame q.link) r (streamer_of w given frame' c)
         → Step (command.Beat time) q (outcome.Beaten r)
-          (record q { writer = w; store = store'; link = c })
+        (record q { writer = w; store = store'; link = c })
     finishes : {q : Point C N} (given frame frame' request answer store' : List ℕ)
         (r : Result Finished Refusal) (w : Writer) (c : C)
         → Lends q.store store' given given
         → UnlessRefused
-          (finish_refusal (view_of q.writer) (lengths_of given frame request answer))
-          (Finishes acts)
-          (streamer_of q.writer given frame q.link) r (streamer_of w given frame' c)
+        (finish_refusal (view_of q.writer) (lengths_of given frame request answer))
+        (Finishes acts)
+        (streamer_of q.writer given frame q.link) r (streamer_of w given frame' c)
         → Step command.Finish q (outcome.Ended r)
-          (record q { writer = w; store = store'; link = c })
+        (record q { writer = w; store = store'; link = c })
     recovers : {q : Point C N} (time : ℕ)
         (given frame frame' request request' answer answer' store' : List ℕ)
         (r : Result Recovered Refusal) (w : Writer) (c : C) (n : N)
         → Lends q.store store' given given
         → (d : UnlessRefused
-          (refusal_for (view_of q.writer) call.Recover (lengths_of given frame request answer))
-          (Recovers acts asks time)
-          (site_of q.writer given frame (channel_over q.link request answer) q.namenode) r
-          (site_of w given frame' (channel_over c request' answer') n))
+        (refusal_for (view_of q.writer) call.Recover (lengths_of given frame request answer))
+        (Recovers acts asks time)
+        (site_of q.writer given frame (channel_over q.link request answer) q.namenode) r
+        (site_of w given frame' (channel_over c request' answer') n))
         → Step (command.Recover time) q (outcome.Recovered r)
-          (record {
-            history = rebuilt q.history (set_in acts asks time r
-                (site_of w given frame' (channel_over c request' answer') n)
-                (refusal_for (view_of q.writer) call.Recover
-                  (lengths_of given frame request answer))
-                (site_of q.writer given frame (channel_over q.link request answer) q.namenode) d);
-            writer = w; store = store'; link = c; namenode = n })
+        (record {
+          history = rebuilt q.history (set_in acts asks time r
+              (site_of w given frame' (channel_over c request' answer') n)
+              (refusal_for (view_of q.writer) call.Recover
+              (lengths_of given frame request answer))
+              (site_of q.writer given frame (channel_over q.link request answer) q.namenode) d);
+          writer = w;
+          store = store';
+          link = c;
+          namenode = n;
+        })
 
   -- any list of calls, and what each answered
   pub data Run : List Command → Point C N → List Outcome → Point C N → Type 0 where

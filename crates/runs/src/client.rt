@@ -21,10 +21,10 @@ pub fn call<C: Chain, N: Namenode>(
     answer: &mut [u8],
     command: Command<'_>,
 ) -> Outcome
-    ensures {
-        (h : History) → (k : History) × Step C.Link N.NamenodeProtocol C.Chain.seen command.entry
-            (point_of h writer.old store.old link.old namenode.old) result
-            (point_of k writer.new store.new link.new namenode.new) }
+    ensures { (h : History) → (k : History)
+        × Step C.Link N.NamenodeProtocol C.Chain.seen command.entry
+        (point_of h writer.old store.old link.old namenode.old) result
+        (point_of k writer.new store.new link.new namenode.new) }
 {
     match command {
         Command::Write(bytes) => {
@@ -54,10 +54,9 @@ pub fn run<C: Chain, N: Namenode>(
     commands: &[Command<'_>],
     outcomes: &mut [Option<Outcome>],
 )
-    ensures {
-        (h : History) → Made C.Link N.NamenodeProtocol C.Chain.seen N.Namenode.entry
-            (point_of h writer.old store.old link.old namenode.old) commands.now outcomes.old
-            (λ k. point_of k writer.new store.new link.new namenode.new) outcomes.new }
+    ensures { (h : History) → Made C.Link N.NamenodeProtocol C.Chain.seen N.Namenode.entry
+        (point_of h writer.old store.old link.old namenode.old) commands.now outcomes.old
+        (λ k. point_of k writer.new store.new link.new namenode.new) outcomes.new }
 {
     // Stays by the place: of what is written through an iterator a proof knows the length alone.
     'calls: for i in 0..commands.len().min(outcomes.len()) {

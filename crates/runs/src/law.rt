@@ -13,10 +13,9 @@ use namenode::meaning::Namenode;
 /// After an opening without refusal, whatever calls follow in whatever order, accepted or refused, over every pipeline and namenode that
 /// mean what theirs do: no accepted byte is lost, doubled or put in another place.
 pub fn law_stands<C: Chain, N: Namenode>()
-    ensures {
-        (opening : Opening) (link : C) (p q : Point C N)
-            (calls : List Command) (answers : List Outcome)
-            → Begins C.Link C.Chain.seen N.Namenode.entry opening link p
-            → Run C.Link N.NamenodeProtocol C.Chain.seen calls p answers q
-            → Law C.Chain.seen N.Namenode.entry q }
+    ensures { (opening : Opening) (link : C) (p q : Point C N)
+        (calls : List Command) (answers : List Outcome)
+        → Begins C.Link C.Chain.seen N.Namenode.entry opening link p
+        → Run C.Link N.NamenodeProtocol C.Chain.seen calls p answers q
+        → Law C.Chain.seen N.Namenode.entry q }
 {}

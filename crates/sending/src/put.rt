@@ -13,8 +13,8 @@ pub fn put_packet<L: Link>(
     frame: &mut [u8],
 ) -> Result<(), LinkLost>
     requires { fits_in (summed chunk_size packet) frame.old ≡ true }
-    ensures put {
-        L.Link.puts link.old (octets_of (summed chunk_size packet.entry)) (is_ok result) link.new }
+    ensures put { L.Link.puts link.old (octets_of (summed chunk_size packet.entry))
+        (is_ok result) link.new }
     ensures frame { frame.new ≡ over (summed chunk_size packet.entry) frame.old }
 {
     let end = write_frame(frame, packet, chunk_size).unwrap();

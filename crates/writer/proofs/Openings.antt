@@ -14,7 +14,7 @@ use Rattle.writer.specs.declared.opening.Opening.{Opening}
 use Rattle.writer.specs.declared.refusal.Refusal.{Refusal}
 use Rattle.writer.specs.declared.refusal.Refusal.TheVariants as refusal
 use Rattle.writer.specs.declared.terms.Terms.{Terms}
-use Rattle.writer.specs.Opening.{capacity_in, by_length, by_count, by_form, by_buffers, later_refusal, stage_for, block_for, open_refusal, SetsUpFor, Shut, Started, Opens}
+use Rattle.writer.specs.Opening.{capacity_in, by_length, by_count, by_form, by_buffers, later_refusal, stage_for, block_for, open_refusal, SetsUpFor, Started, Opens}
 use Rattle.writer.specs.Refusals.{or_else}
 use Rattle.writer.specs.Settling.{Settles}
 use Rattle.writer.specs.Views.{View}

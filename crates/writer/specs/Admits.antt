@@ -47,7 +47,7 @@ abbrev pub by_room : Terms → Lengths → Option Refusal
 by_room t l =
     if l.store == t.store_len then
     (if nat_le (frame_room t) l.frame && (nat_le 4096 l.request && nat_le 4096 l.answer) then None
-      else Some refusal.Buffer)
+    else Some refusal.Buffer)
     else Some refusal.Store
 
 abbrev pub refusal_for : View → Call → Lengths → Option Refusal
@@ -56,4 +56,8 @@ refusal_for v c l = or_else (by_state v.state c) (by_room v.terms l)
 abbrev pub lengths_of : List ℕ → List ℕ → List ℕ → List ℕ → Lengths
 lengths_of store frame request answer =
     record {
-      store = length store; frame = length frame; request = length request; answer = length answer }
+      store = length store;
+      frame = length frame;
+      request = length request;
+      answer = length answer;
+    }

@@ -1,6 +1,7 @@
 -- What a call works on, and that a refused one leaves all of it. Assumes nothing.
 use Rattle.std.specs.Prelude.{◌≡◌, List, ℕ, Some, None, Err, Option, Result}
-use Rattle.pipeline.specs.Channels.{ChannelView}
+use Rattle.pipeline.specs.declared.channel.Channel.{Channel}
+use Rattle.pipeline.specs.Channels.{ChannelView, channel_view}
 use Rattle.writer.specs.declared.refusal.Refusal.{Refusal}
 use Rattle.writer.specs.declared.state.Writer.{Writer}
 use Rattle.writer.specs.Views.{View, view_of}
@@ -36,7 +37,15 @@ pub record Site (L N : Type 0) : Type 0 where
 abbrev pub site_of : {L N : Type 0} → Writer → List ℕ → List ℕ → ChannelView L → N → Site L N
 site_of w store frame channel namenode =
     record {
-      view = view_of w; store = store; frame = frame; channel = channel; namenode = namenode }
+      view = view_of w;
+      store = store;
+      frame = frame;
+      channel = channel;
+      namenode = namenode;
+    }
+
+abbrev pub site_at : {L N : Type 0} → Writer → List ℕ → List ℕ → Channel L → N → Site L N
+site_at w store frame channel namenode = site_of w store frame (channel_view channel) namenode
 
 -- a refused call answers why and leaves what it works on; any other acts
 abbrev pub UnlessRefused : {S A : Type 0} → Option Refusal → (S → Result A Refusal → S → Type 0)

@@ -9,7 +9,9 @@ abbrev pub first_failed : FailedNodes
 first_failed =
     record {
       positions = true ∷ false ∷ false ∷ false ∷ false ∷ false ∷ false ∷ false ∷ [];
-      count = 1; highest = 0 }
+      count = 1;
+      highest = 0;
+    }
 
 abbrev pub failed_in : Cause → FailedNodes
 failed_in (Put n) = first_failed

@@ -11,8 +11,11 @@ use Rattle.writer.specs.Views.{View}
 abbrev pub record_of : View → ExtendedBlock
 record_of v =
     record {
-      pool_id = v.terms.pool_id; block_id = v.terms.block_id;
-      generation_stamp = v.stamp; num_bytes = v.len }
+      pool_id = v.terms.pool_id;
+      block_id = v.terms.block_id;
+      generation_stamp = v.stamp;
+      num_bytes = v.len;
+    }
 
 abbrev pub closes_in : State → View → Result ExtendedBlock Refusal
 closes_in Complete v = Ok (record_of v)

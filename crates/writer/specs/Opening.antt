@@ -50,7 +50,7 @@ abbrev pub by_count : Opening → Option Refusal
 by_count o =
     let count = length o.infos.now in
     if nat_le 1 count && (nat_le count 8
-      && (length o.storage_ids.now == count && length o.storage_types.now == count))
+    && (length o.storage_ids.now == count && length o.storage_types.now == count))
     then None else Some refusal.Nodes
 
 abbrev pub by_texts : Opening → Bool
@@ -68,8 +68,8 @@ abbrev pub by_buffers : Opening → Lengths → Option Refusal
 by_buffers o l =
     if nat_le (3 * capacity_in o) l.store then
     (if nat_le (frame_capacity_of 4 o.chunk_size o.packet_size) l.frame
-        && (nat_le 4096 l.request && nat_le 4096 l.answer)
-      then None else Some refusal.Buffer)
+    && (nat_le 4096 l.request && nat_le 4096 l.answer)
+    then None else Some refusal.Buffer)
     else Some refusal.Store
 
 abbrev pub size_refusal : SizeError → Refusal
@@ -130,8 +130,11 @@ pub record Shut (w : View) : Type 0 where
 abbrev pub block_for : Opening → Terms → ExtendedBlock
 block_for o t =
     record {
-      pool_id = t.pool_id; block_id = o.block_id;
-      generation_stamp = o.stamp; num_bytes = o.initial_len }
+      pool_id = t.pool_id;
+      block_id = o.block_id;
+      generation_stamp = o.stamp;
+      num_bytes = o.initial_len;
+    }
 
 abbrev pub Started : Reply → Opening → Lengths → Token → List Datanode → Option Refusal → View
     → Type 0

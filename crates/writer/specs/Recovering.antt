@@ -103,8 +103,11 @@ module _ {L N : Type 0} (acts : Link.Ghosts L) (asks : Namenode.Ghosts N) where
         s.view s.namenode told view namenode
     pub follows : AfterUpdate told
         (record s {
-          view = view; frame = frame; channel = record s.channel { link = link };
-          namenode = namenode }) r t
+          view = view;
+          frame = frame;
+          channel = record s.channel { link = link };
+          namenode = namenode;
+        }) r t
 
   abbrev pub AfterSetUp : Result SetUp Refusal → Token → Option (ℕ × ℕ) → List Datanode → ℕ
       → Site L N → Result Recovered Refusal → Site L N → Type 0

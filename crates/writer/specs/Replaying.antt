@@ -1,5 +1,5 @@
 -- Held packets put again, in their order, until one is lost. Assumes nothing.
-use Rattle.std.specs.Prelude.{ℕ, ◌+◌, Bool, true, false, List, [], ◌∷◌, Some, None, Option}
+use Rattle.std.specs.Prelude.{ℕ, ◌+◌, true, false, List, [], ◌∷◌, Some, None, Option}
 use Rattle.packet.specs.Frame.{Packet, octets_of, over}
 use Rattle.chain.specs.declared.link.Link as Link
 

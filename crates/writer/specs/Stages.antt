@@ -30,8 +30,8 @@ use Rattle.writer.specs.Views.{View, chunk_of, held_in}
 abbrev pub TokenAs : Bool → ℕ → ℕ → List ℕ → Result (Stamped × Token) Refusal → Type 0
 TokenAs true least stamp octets r =
     (token : Token)
-        × ((octets_in token.message ≡ octets)
-        × (r ≡ Ok (record { least = least; stamp = stamp }, token)))
+    × ((octets_in token.message ≡ octets)
+    × (r ≡ Ok (record { least = least; stamp = stamp }, token)))
 TokenAs false least stamp octets r = r ≡ Err refusal.Stamp
 
 abbrev pub StampAs : Option (ℕ × List ℕ) → ℕ → Result (Stamped × Token) Refusal → Type 0

@@ -65,8 +65,10 @@ with_bytes m v = record v { len = v.len + m; filling = v.filling + m }
 abbrev pub with_held : View → View
 with_held v =
     record v {
-      count = v.count + 1; filling = 0;
-      sizes = slice_set v.sizes (next_of v % v.terms.slots) v.filling }
+      count = v.count + 1;
+      filling = 0;
+      sizes = slice_set v.sizes (next_of v % v.terms.slots) v.filling;
+    }
 
 -- the first held packet is held no more
 abbrev pub without_first : View → View

@@ -59,13 +59,13 @@ module _ {L : Type 0} (acts : Link.Ghosts L) where
   Turns bytes p Stopped q = (turn_of p.view (length bytes) ≡ stop) × (q ≡ p)
   Turns bytes p (Poured n) q =
       (turn_of p.view (length bytes) ≡ pour) × (n ≡ amount p.view (length bytes))
-          × (q ≡ poured p bytes)
+      × (q ≡ poured p bytes)
   Turns bytes p Handed q =
       (turn_of p.view (length bytes) ≡ hand) × PutsOutgoing p true q.link
-          × (q ≡ handed_over p true q.link)
+      × (q ≡ handed_over p true q.link)
   Turns bytes p Lost q =
       (turn_of p.view (length bytes) ≡ hand) × PutsOutgoing p false q.link
-          × (q ≡ handed_over p false q.link)
+      × (q ≡ handed_over p false q.link)
 
   -- turn by turn, until nothing can be done or a put is lost: how many bytes were taken, and whether a put was lost
   pub data Writes : Streamer L → List ℕ → ℕ → Bool → Streamer L → Type 0 where

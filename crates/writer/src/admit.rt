@@ -45,9 +45,8 @@ impl Lengths {
 
     /// Whether the frame's buffer holds every frame, and the two others every message.
     pub(crate) fn suffices(self, size: PacketSize) -> bool
-        ensures {
-            result ≡ nat_le (frame_capacity_of 4 size.chunk size.packet) self.frame
-                && (nat_le 4096 self.request && nat_le 4096 self.answer) }
+        ensures { result ≡ nat_le (frame_capacity_of 4 size.chunk size.packet) self.frame
+            && (nat_le 4096 self.request && nat_le 4096 self.answer) }
     {
         self.frame >= size.frame_capacity()
             && self.request >= MESSAGE_LEN

@@ -50,9 +50,8 @@ impl Writer {
     ) -> Result<Beat, Refusal>
         requires state_value { self.old.state ≡ Streaming }
         requires frame_len { frame_room self.old.terms ≤ length frame.old }
-        ensures {
-            PutsBeat L.Link time (streamer_of self.old store.now frame.old link.old) result
-                (streamer_of self.new store.now frame.new link.new) }
+        ensures { PutsBeat L.Link time (streamer_of self.old store.now frame.old link.old) result
+            (streamer_of self.new store.now frame.new link.new) }
     {
         let packet = WritePacket {
             offset: 0,
@@ -81,13 +80,11 @@ impl Writer {
         answer: &[u8],
         time: u64,
     ) -> Result<Beat, Refusal>
-        ensures {
-            UnlessRefused
-                (refusal_for (view_of self.old) call.Beat
-                    (lengths_of store.now frame.old request.now answer.now))
-                (Beats L.Link time)
-                (streamer_of self.old store.now frame.old link.old) result
-                (streamer_of self.new store.now frame.new link.new) }
+        ensures { let lengths = lengths_of store.now frame.old request.now answer.now in
+            let before = streamer_of self.old store.now frame.old link.old in
+            let after = streamer_of self.new store.now frame.new link.new in
+            UnlessRefused (refusal_for (view_of self.old) call.Beat lengths)
+            (Beats L.Link time) before result after }
     {
         self.admit(Call::Beat, Lengths::of(store, frame, request, answer))?;
         self.beat_if_due(link, store, frame, time)
@@ -102,10 +99,9 @@ impl Writer {
     ) -> Result<Beat, Refusal>
         requires state_value { self.old.state ≡ Streaming }
         requires frame_len { frame_room self.old.terms ≤ length frame.old }
-        ensures {
-            BeatsIf L.Link (is_due (view_of self.old) time) time
-                (streamer_of self.old store.now frame.old link.old) result
-                (streamer_of self.new store.now frame.new link.new) }
+        ensures { BeatsIf L.Link (is_due (view_of self.old) time) time
+            (streamer_of self.old store.now frame.old link.old) result
+            (streamer_of self.new store.now frame.new link.new) }
     {
         if !self.is_due(time) {
             return Ok(Beat::Idle);

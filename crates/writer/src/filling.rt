@@ -39,11 +39,10 @@ impl Writer {
     /// How many of `n` bytes the packet and the block have room for.
     pub(crate) fn room_for(&self, n: usize) -> usize
         ensures value { result ≡ amount (view_of self.now) n }
-        ensures within {
-            (result ≤ n)
-                × (self.now.filling + result
-                    ≤ room_at self.now.terms (self.now.first + self.now.count))
-                × (self.now.len + result ≤ self.now.terms.block_size) }
+        ensures within { (result ≤ n)
+            × (self.now.filling + result
+            ≤ room_at self.now.terms (self.now.first + self.now.count))
+            × (self.now.len + result ≤ self.now.terms.block_size) }
     {
         let room = self.packet_capacity() - self.filling;
         let left = (self.terms.block_size - self.len) as usize;
@@ -56,9 +55,8 @@ impl Writer {
         requires state_value { ended self.old.state ≡ false }
         ensures taken { result ≡ amount (view_of self.old) (length bytes.now) }
         ensures view { view_of self.new ≡ with_bytes result (view_of self.old) }
-        ensures lies {
-            store.new ≡ put_mid (slot_start (view_of self.old) + self.old.filling) result
-                store.old (take result bytes.now) }
+        ensures lies { store.new ≡ put_mid (slot_start (view_of self.old) + self.old.filling) result
+            store.old (take result bytes.now) }
     {
         let n = self.room_for(bytes.len());
         let from = self.slot_start() + self.filling;
@@ -73,9 +71,9 @@ impl Writer {
     // So are numbers within the length (`initial_len_bound`): the packet has bytes or is the last, which its call knows and no type says.
     pub(crate) fn hold(&mut self)
         requires count_bound { self.old.count + 1 < self.old.terms.slots }
-        requires initial_len_bound {
-            self.old.first + self.old.count + 1 + self.old.terms.initial_len
-                ≤ self.old.len + last_ones self.old.state }
+        requires initial_len_bound { self.old.first + self.old.count + 1
+            + self.old.terms.initial_len
+            ≤ self.old.len + last_ones self.old.state }
         ensures { view_of self.new ≡ with_held (view_of self.old) }
     {
         let seqno = self.first + self.count as u64;

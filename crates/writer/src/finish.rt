@@ -43,9 +43,8 @@ impl Writer {
         requires buffers { Suffice self.old.terms store.now frame.old }
         requires filling_value { self.old.filling ≡ 0 }
         requires count_bound { self.old.count + 1 < self.old.terms.slots }
-        ensures {
-            Ends L.Link (streamer_of self.old store.now frame.old link.old) result
-                (streamer_of self.new store.now frame.new link.new) }
+        ensures { Ends L.Link (streamer_of self.old store.now frame.old link.old) result
+            (streamer_of self.new store.now frame.new link.new) }
     {
         self.state = State::Finishing;
         let put = self.hand_over(link, store, frame);
@@ -59,8 +58,8 @@ impl Writer {
     fn hold_last(&mut self, seqno: u64)
         requires filling_value { self.old.filling ≡ 0 }
         requires count_bound { self.old.count + 1 < self.old.terms.slots }
-        requires initial_len_bound {
-            self.old.first + self.old.count + self.old.terms.initial_len ≤ self.old.len }
+        requires initial_len_bound { self.old.first + self.old.count + self.old.terms.initial_len
+            ≤ self.old.len }
         ensures { view_of self.new ≡ unsent_last seqno (view_of self.old) }
     {
         self.state = State::Broken {
@@ -76,9 +75,8 @@ impl Writer {
         requires buffers { Suffice self.old.terms store.now frame.old }
         requires filling_nonzero { 0 < self.old.filling }
         requires count_bound { self.old.count + 2 < self.old.terms.slots }
-        ensures {
-            Empties L.Link (streamer_of self.old store.now frame.old link.old) result
-                (streamer_of self.new store.now frame.new link.new) }
+        ensures { Empties L.Link (streamer_of self.old store.now frame.old link.old) result
+            (streamer_of self.new store.now frame.new link.new) }
     {
         let seqno = self.first + self.count as u64;
         match self.hand_over(link, store, frame) {
@@ -93,12 +91,11 @@ impl Writer {
     fn end_block<L: Link>(&mut self, link: &mut L, store: &[u8], frame: &mut [u8]) -> Finished
         requires state_value { self.old.state ≡ Streaming }
         requires buffers { Suffice self.old.terms store.now frame.old }
-        requires self_bound {
-            self.old.count + closing_packets (view_of self.old) < self.old.terms.slots }
-        ensures {
-            EndsIf L.Link (self.old.filling == 0)
-                (streamer_of self.old store.now frame.old link.old) result
-                (streamer_of self.new store.now frame.new link.new) }
+        requires self_bound { self.old.count + closing_packets (view_of self.old)
+            < self.old.terms.slots }
+        ensures { EndsIf L.Link (self.old.filling == 0)
+            (streamer_of self.old store.now frame.old link.old) result
+            (streamer_of self.new store.now frame.new link.new) }
     {
         if self.filling == 0 {
             return self.end(link, store, frame);
@@ -115,13 +112,11 @@ impl Writer {
         request: &[u8],
         answer: &[u8],
     ) -> Result<Finished, Refusal>
-        ensures {
-            UnlessRefused
-                (finish_refusal (view_of self.old)
-                    (lengths_of store.now frame.old request.now answer.now))
-                (Finishes L.Link)
-                (streamer_of self.old store.now frame.old link.old) result
-                (streamer_of self.new store.now frame.new link.new) }
+        ensures { let lengths = lengths_of store.now frame.old request.now answer.now in
+            let before = streamer_of self.old store.now frame.old link.old in
+            let after = streamer_of self.new store.now frame.new link.new in
+            UnlessRefused (finish_refusal (view_of self.old) lengths)
+            (Finishes L.Link) before result after }
     {
         self.admit_finish(Lengths::of(store, frame, request, answer))?;
         Ok(self.end_block(link, store, frame))

@@ -56,9 +56,8 @@ impl Writer {
         frame: &mut [u8],
     ) -> Result<(), LinkLost>
         requires buffers { Suffice self.now.terms store.now frame.old }
-        ensures put {
-            L.Link.puts link.old (octets_of (outgoing (view_of self.now) store.now))
-                (is_ok result) link.new }
+        ensures put { L.Link.puts link.old (octets_of (outgoing (view_of self.now) store.now))
+            (is_ok result) link.new }
         ensures frame { frame.new ≡ over (outgoing (view_of self.now) store.now) frame.old }
     {
         let packet = WritePacket {
@@ -81,17 +80,15 @@ impl Writer {
     ) -> Result<(), LinkLost>
         requires buffers { Suffice self.old.terms store.now frame.old }
         requires count_bound { self.old.count + 1 < self.old.terms.slots }
-        requires initial_len_bound {
-            self.old.first + self.old.count + 1 + self.old.terms.initial_len
-                ≤ self.old.len + last_ones self.old.state }
+        requires initial_len_bound { self.old.first + self.old.count + 1
+            + self.old.terms.initial_len
+            ≤ self.old.len + last_ones self.old.state }
         requires state_value { last_ones self.old.state ≡ (if ended self.old.state then 1 else 0) }
-        ensures put {
-            L.Link.puts link.old (octets_of (outgoing (view_of self.old) store.now))
-                (is_ok result) link.new }
+        ensures put { L.Link.puts link.old (octets_of (outgoing (view_of self.old) store.now))
+            (is_ok result) link.new }
         ensures frame { frame.new ≡ over (outgoing (view_of self.old) store.now) frame.old }
-        ensures view {
-            view_of self.new ≡ (if is_ok result then with_held (view_of self.old)
-                else broken_by (Put (next_of (view_of self.old))) (with_held (view_of self.old))) }
+        ensures view { view_of self.new ≡ (if is_ok result then with_held (view_of self.old)
+            else broken_by (Put (next_of (view_of self.old))) (with_held (view_of self.old))) }
     {
         let seqno = self.first + self.count as u64;
         let put = self.put_outgoing(link, store, frame);

@@ -133,8 +133,8 @@ impl Writer {
         requires listens { listens self.old.state ≡ true }
         requires counted { (f : FailedNodes) → heard ≡ Ok (Some (Failed f)) → IsCounted f }
         ensures result { result ≡ answer_of (decided (view_of self.old) heard) }
-        ensures view {
-            view_of self.new ≡ after (view_of self.old) (decided (view_of self.old) heard) }
+        ensures view { let v = view_of self.old in
+            view_of self.new ≡ after v (decided v heard) }
     {
         match self.decide(heard) {
             Decision::Wait => Ok(Heeded::Nothing),
@@ -158,9 +158,8 @@ impl Writer {
     // Asks the link once, and does what its answer decides.
     fn ask_link<L: Link>(&mut self, link: &mut L, answer: &mut [u8]) -> Result<Heeded, Refusal>
         requires { listens self.old.state ≡ true }
-        ensures {
-            Heeds L.Link (listener_of self.old link.old answer.old) result
-                (listener_of self.new link.new answer.new) }
+        ensures { Heeds L.Link (listener_of self.old link.old answer.old) result
+            (listener_of self.new link.new answer.new) }
     {
         let heard = ask(link, answer);
         self.hear(heard)
@@ -175,13 +174,11 @@ impl Writer {
         request: &[u8],
         answer: &mut [u8],
     ) -> Result<Heeded, Refusal>
-        ensures {
-            UnlessRefused
-                (refusal_for (view_of self.old) call.Heed
-                    (lengths_of store.now frame.now request.now answer.old))
-                (Heeds L.Link)
-                (listener_of self.old link.old answer.old) result
-                (listener_of self.new link.new answer.new) }
+        ensures { let lengths = lengths_of store.now frame.now request.now answer.old in
+            let before = listener_of self.old link.old answer.old in
+            let after = listener_of self.new link.new answer.new in
+            UnlessRefused (refusal_for (view_of self.old) call.Heed lengths)
+            (Heeds L.Link) before result after }
     {
         self.admit(Call::Heed, Lengths::of(store, frame, request, answer))?;
         self.ask_link(link, answer)

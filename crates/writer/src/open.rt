@@ -67,11 +67,19 @@ impl Tables {
         requires fits { Fits terms }
         requires few { length self.nodes.rows.items ≤ 8 }
         requires counted { IsCounted (failed_on state) }
-        ensures {
-            view_of result ≡ record {
-                terms = terms; state = state; stamp = stamp; token = token; len = terms.initial_len;
-                first = 0; count = 0; filling = 0; beaten = time;
-                sizes = replicate 101 0; nodes = self.nodes.rows.items } }
+        ensures { view_of result ≡ record {
+          terms = terms;
+          state = state;
+          stamp = stamp;
+          token = token;
+          len = terms.initial_len;
+          first = 0;
+          count = 0;
+          filling = 0;
+          beaten = time;
+          sizes = replicate 101 0;
+          nodes = self.nodes.rows.items;
+        } }
     {
         let Tables {
             held,
@@ -116,9 +124,8 @@ impl Tables {
     fn accepted(self, opening: Opening<'_>, terms: Terms, token: Token) -> Opened
         requires fits { Fits terms }
         requires few { length self.nodes.rows.items ≤ 8 }
-        ensures opened {
-            (lengths : Lengths) → TermsFor opening.entry lengths terms
-                → Fresh opening.entry lengths token self.nodes.rows.items (view_of result.writer) }
+        ensures opened { (lengths : Lengths) → TermsFor opening.entry lengths terms
+            → Fresh opening.entry lengths token self.nodes.rows.items (view_of result.writer) }
         ensures well { result.outcome ≡ Ok tt }
     {
         Opened {
@@ -137,9 +144,8 @@ impl Tables {
     ) -> Result<(), ReplyError>
         requires { (1 ≤ length self.now.nodes.rows.items) × (length self.now.nodes.rows.items ≤ 8) }
         ensures same { SameLoans channel.old channel.new }
-        ensures acts {
-            SetsUpFor L.Link opening.entry terms.now token.now self.now.nodes.rows.items
-                (channel_view channel.old) result (channel_view channel.new) }
+        ensures acts { SetsUpFor L.Link opening.entry terms.now token.now self.now.nodes.rows.items
+            (channel_view channel.old) result (channel_view channel.new) }
     {
         let wanted = SetupRequest {
             header: ClientOperationHeader {
@@ -185,20 +191,21 @@ impl Writer {
         request: &mut [u8],
         answer: &mut [u8],
     ) -> Result<Opened, AllocError>
-        ensures opened {
-            let lengths = lengths_of store.now frame.now request.old answer.old in
+        ensures opened { let lengths = lengths_of store.now frame.now request.old answer.old in
             IfOk result (λ x.
-                Opens L.Link (open_refusal opening.entry lengths) opening.entry lengths
-                    (channel_over link.entry.now request.old answer.old)
-                    (result_err x.outcome) (view_of x.writer)
-                    (channel_over link.exit.now request.new answer.new)) }
-        ensures unmade {
-            is_ok result ≡ false → channel_over link.exit.now request.new answer.new
-                ≡ channel_over link.entry.now request.old answer.old }
+            Opens L.Link (open_refusal opening.entry lengths) opening.entry lengths
+            (channel_over link.entry.now request.old answer.old)
+            (result_err x.outcome) (view_of x.writer)
+            (channel_over link.exit.now request.new answer.new)) }
+        ensures unmade { is_ok result ≡ false → channel_over link.exit.now request.new answer.new
+            ≡ channel_over link.entry.now request.old answer.old }
     {
         let mut tables = Tables::new(heap)?;
         // Two matches and no `?`: a refused opening is no `Err` here, since the tables go into the closed writer that is answered with it.
-        let (terms, token) = match tables.settle(opening, Lengths::of(store, frame, request, answer)) {
+        let (terms, token) = match tables.settle(
+            opening,
+            Lengths::of(store, frame, request, answer),
+        ) {
             Ok(settled) => settled,
             Err(refusal) => return Ok(tables.refused(refusal)),
         };

@@ -1,9 +1,9 @@
 //! A broken pipeline rebuilt.
 ghost use Rattle.std.specs.Prelude.{◌≡◌, ℕ, ◌^◌, ◌<◌, ◌≤◌, length};
-ghost use Rattle.pipeline.specs.Channels.{channel_over, channel_view, SameLoans};
+ghost use Rattle.pipeline.specs.Channels.{channel_over, SameLoans};
 ghost use Rattle.writer.specs.declared.admit.Call.TheVariants as call;
 ghost use Rattle.writer.specs.Admits.{refusal_for, lengths_of};
-ghost use Rattle.writer.specs.Calls.{site_of, UnlessRefused};
+ghost use Rattle.writer.specs.Calls.{site_of, site_at, UnlessRefused};
 ghost use Rattle.writer.specs.Recovering.{left_of, gone_of, beyond, Resumes, Builds, AsksStamp, Rebuilds, IfSurvived, Recovers};
 ghost use Rattle.writer.specs.Sizes.{Suffice};
 ghost use Rattle.writer.specs.States.{IsBrokenState};
@@ -50,11 +50,10 @@ impl Writer {
         requires least_value { set_up.least ≡ least_of (view_of self.old) }
         requires buffers { Suffice self.old.terms store.now frame.old }
         ensures same { SameLoans channel.old channel.new }
-        ensures acts {
-            Resumes L.Link N.NamenodeProtocol set_up token choice self.old.chosen.rows.items time
-                (site_of self.old store.now frame.old (channel_view channel.old) namenode.old)
-                result
-                (site_of self.new store.now frame.new (channel_view channel.new) namenode.new) }
+        ensures acts { Resumes L.Link N.NamenodeProtocol set_up token choice
+            self.old.chosen.rows.items time
+            (site_at self.old store.now frame.old channel.old namenode.old) result
+            (site_at self.new store.now frame.new channel.new namenode.new) }
     {
         let replayed = set_up.replay(channel.link, self, store, frame);
         match replayed.update(namenode, self, token, choice, time) {
@@ -80,17 +79,14 @@ impl Writer {
         requires buffers { Suffice self.old.terms store.now frame.old }
         requires some_left { 1 ≤ length self.old.chosen.rows.items }
         ensures same { SameLoans channel.old channel.new }
-        ensures acts {
-            Builds L.Link N.NamenodeProtocol stamped token choice self.old.chosen.rows.items time
-                (site_of self.old store.now frame.old (channel_view channel.old) namenode.old)
-                result
-                (site_of self.new store.now frame.new (channel_view channel.new) namenode.new) }
+        ensures acts { Builds L.Link N.NamenodeProtocol stamped token choice
+            self.old.chosen.rows.items time
+            (site_at self.old store.now frame.old channel.old namenode.old) result
+            (site_at self.new store.now frame.new channel.new namenode.new) }
     {
         match stamped.set_up(channel, self, &token) {
             Ok(set_up) => {
-                self.replay_on(
-                    set_up, token, choice, channel, namenode, store, frame, time,
-                )
+                self.replay_on(set_up, token, choice, channel, namenode, store, frame, time)
             }
             Err(refusal) => Err(self.close_by(refusal)),
         }
@@ -110,11 +106,10 @@ impl Writer {
         requires buffers { Suffice self.old.terms store.now frame.old }
         requires some_left { 1 ≤ length self.old.chosen.rows.items }
         ensures same { SameLoans channel.old channel.new }
-        ensures acts {
-            AsksStamp L.Link N.NamenodeProtocol choice self.old.chosen.rows.items time
-                (site_of self.old store.now frame.old (channel_view channel.old) namenode.old)
-                result
-                (site_of self.new store.now frame.new (channel_view channel.new) namenode.new) }
+        ensures acts { AsksStamp L.Link N.NamenodeProtocol choice
+            self.old.chosen.rows.items time
+            (site_at self.old store.now frame.old channel.old namenode.old) result
+            (site_at self.new store.now frame.new channel.new namenode.new) }
     {
         let counted = Counted::of(self);
         match counted.stamp(namenode, self.len) {
@@ -140,11 +135,9 @@ impl Writer {
         requires gone { self.old.gone.rows.items ≡ gone_of (view_of self.old) }
         requires some_left { 1 ≤ length self.old.chosen.rows.items }
         ensures same { SameLoans channel.old channel.new }
-        ensures acts {
-            Rebuilds L.Link N.NamenodeProtocol time
-                (site_of self.old store.now frame.old (channel_view channel.old) namenode.old)
-                result
-                (site_of self.new store.now frame.new (channel_view channel.new) namenode.new) }
+        ensures acts { Rebuilds L.Link N.NamenodeProtocol time
+            (site_at self.old store.now frame.old channel.old namenode.old) result
+            (site_at self.new store.now frame.new channel.new namenode.new) }
     {
         match self.choose_pipeline(channel, namenode) {
             Ok(choice) => self.rebuild(choice, channel, namenode, store, frame, time),
@@ -163,11 +156,10 @@ impl Writer {
         requires is_broken { IsBrokenState self.old.state }
         requires buffers { Suffice self.old.terms store.now frame.old }
         ensures same { SameLoans channel.old channel.new }
-        ensures acts {
-            IfSurvived L.Link N.NamenodeProtocol (beyond (view_of self.old)) time
-                (site_of self.old store.now frame.old (channel_view channel.old) namenode.old)
-                result
-                (site_of self.new store.now frame.new (channel_view channel.new) namenode.new) }
+        ensures acts { IfSurvived L.Link N.NamenodeProtocol
+            (beyond (view_of self.old)) time
+            (site_at self.old store.now frame.old channel.old namenode.old) result
+            (site_at self.new store.now frame.new channel.new namenode.new) }
     {
         match self.survive() {
             Ok(()) => self.choose_and_rebuild(channel, namenode, store, frame, time),
@@ -186,16 +178,13 @@ impl Writer {
         answer: &mut [u8],
         time: u64,
     ) -> Result<Recovered, Refusal>
-        ensures {
-            UnlessRefused
-                (refusal_for (view_of self.old) call.Recover
-                    (lengths_of store.now frame.old request.old answer.old))
-                (Recovers L.Link N.NamenodeProtocol time)
-                (site_of self.old store.now frame.old
-                    (channel_over link.entry.now request.old answer.old) namenode.old)
-                result
-                (site_of self.new store.now frame.new
-                    (channel_over link.exit.now request.new answer.new) namenode.new) }
+        ensures { let lengths = lengths_of store.now frame.old request.old answer.old in
+            let lent = channel_over link.entry.now request.old answer.old in
+            let left = channel_over link.exit.now request.new answer.new in
+            let before = site_of self.old store.now frame.old lent namenode.old in
+            let after = site_of self.new store.now frame.new left namenode.new in
+            UnlessRefused (refusal_for (view_of self.old) call.Recover lengths)
+            (Recovers L.Link N.NamenodeProtocol time) before result after }
     {
         self.admit(Call::Recover, Lengths::of(store, frame, request, answer))?;
         let mut channel = Channel {

@@ -96,9 +96,9 @@ impl Stamped {
     ) -> Result<SetUp, Refusal>
         requires { 1 ≤ length writer.now.chosen.rows.items }
         ensures same { SameLoans channel.old channel.new }
-        ensures acts {
-            SetsUpOn L.Link (view_of writer.now) token.now writer.now.chosen.rows.items self
-                (channel_view channel.old) result (channel_view channel.new) }
+        ensures acts { SetsUpOn L.Link (view_of writer.now) token.now
+            writer.now.chosen.rows.items self
+            (channel_view channel.old) result (channel_view channel.new) }
     {
         let Stamped { least, stamp } = self;
         let wanted = SetupRequest {

@@ -12,10 +12,9 @@ use pipeline::offer::read_node;
 impl<'a> Opening<'a> {
     // The datanode at that place of the three lists.
     fn row(self, i: usize) -> Offered<'a>
-        requires {
-            (i < length self.infos.now)
-                × (length self.storage_ids.now ≡ length self.infos.now)
-                × (length self.storage_types.now ≡ length self.infos.now) }
+        requires { (i < length self.infos.now)
+            × (length self.storage_ids.now ≡ length self.infos.now)
+            × (length self.storage_types.now ≡ length self.infos.now) }
         ensures { row_in result ≡ slice_index_or (rows_in self.entry) i (row_in result) }
     {
         Offered {
@@ -28,9 +27,8 @@ impl<'a> Opening<'a> {
     // Puts the datanodes into the table, where all of them are in form. An Option of nothing, since there is one way to fail.
     pub(crate) fn read_nodes(self, list: &mut NodeTable) -> Option<()>
         requires infos_len_bound { length self.infos.now ≤ 8 }
-        requires storage_ids_len {
-            (length self.storage_ids.now ≡ length self.infos.now)
-                × (length self.storage_types.now ≡ length self.infos.now) }
+        requires storage_ids_len { (length self.storage_ids.now ≡ length self.infos.now)
+            × (length self.storage_types.now ≡ length self.infos.now) }
         ensures rows { RowsRead (rows_in self.entry) list.new.rows.items (is_some result) }
         ensures count { length list.new.rows.items ≤ length self.entry.infos.now }
     {

@@ -60,9 +60,8 @@ fn slots_in(store_len: usize, capacity: usize) -> usize
 fn terms_for(opening: Opening<'_>, size: PacketSize, forms: Forms, lengths: Lengths) -> Terms
     requires chunk_value { (size.chunk ≡ opening.chunk_size) × (size.packet ≡ opening.packet_size) }
     requires opening_value { (by_length opening ≡ None) × (by_buffers opening lengths ≡ None) }
-    requires pool_id_value {
-        (octets_in forms.pool_id ≡ opening.pool_id.now)
-            × (octets_in forms.client_name ≡ opening.client_name.now) }
+    requires pool_id_value { (octets_in forms.pool_id ≡ opening.pool_id.now)
+        × (octets_in forms.client_name ≡ opening.client_name.now) }
     ensures terms { TermsFor opening.entry lengths result }
     ensures fits { Fits result }
 {
@@ -85,10 +84,9 @@ impl Tables {
     // An Option: whatever of these is out of form, the interface has one refusal for it, which the caller names (`Refusal::Form`).
     // That the lists are few and even is asked for: the look before this one refuses others, and `Opening` itself may hold them.
     fn read_forms(&mut self, opening: Opening<'_>) -> Option<Forms>
-        requires {
-            (length opening.infos.now ≤ 8)
-                × (length opening.storage_ids.now ≡ length opening.infos.now)
-                × (length opening.storage_types.now ≡ length opening.infos.now) }
+        requires { (length opening.infos.now ≤ 8)
+            × (length opening.storage_ids.now ≡ length opening.infos.now)
+            × (length opening.storage_types.now ≡ length opening.infos.now) }
         ensures { Formed opening.entry self.new.nodes.rows.items result }
     {
         opening.read_nodes(&mut self.nodes)?;

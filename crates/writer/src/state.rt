@@ -37,9 +37,8 @@ pub struct Writer {
     pub(crate) filling: usize,
     /// When the pipeline was last set up or a heartbeat put.
     pub(crate) beaten: u64,
-    ghost shape: {
-        (3 ≤ terms.slots) × (terms.slots ≤ 101) × (terms.slots * capacity terms ≤ terms.store_len)
-    },
+    ghost shape: { (3 ≤ terms.slots) × (terms.slots ≤ 101)
+        × (terms.slots * capacity terms ≤ terms.store_len) },
     ghost room: { count < terms.slots },
     ghost fits: { filling ≤ room_at terms (first + count) },
     ghost small: { (i : ℕ) → slice_index (sizes_of held.records.items) i ≤ capacity terms },

@@ -38,9 +38,8 @@ impl Writer {
     pub(crate) fn survive(&mut self) -> Result<(), Refusal>
         ensures value { result_err result ≡ beyond (view_of self.old) }
         ensures view { view_of self.new ≡ view_of self.old }
-        ensures parted {
-            Ready (result_err result) (view_of self.old) self.new.chosen.rows.items
-                self.new.gone.rows.items }
+        ensures parted { Ready (result_err result) (view_of self.old) self.new.chosen.rows.items
+            self.new.gone.rows.items }
     {
         let failed = self.state.failed_nodes();
         let count = self.nodes.rows.len();
@@ -68,10 +67,9 @@ impl Writer {
         requires left { self.old.chosen.rows.items ≡ left_of (view_of self.old) }
         requires gone { self.old.gone.rows.items ≡ gone_of (view_of self.old) }
         requires some_left { 1 ≤ length self.old.chosen.rows.items }
-        ensures acts {
-            Replaces L.Link N.NamenodeProtocol (view_of self.old)
-                (channel_view channel.old) namenode.old
-                result self.new.chosen.rows.items (channel_view channel.new) namenode.new }
+        ensures acts { Replaces L.Link N.NamenodeProtocol (view_of self.old)
+            (channel_view channel.old) namenode.old
+            result self.new.chosen.rows.items (channel_view channel.new) namenode.new }
         ensures same { SameLoans channel.old channel.new }
         ensures view { view_of self.new ≡ view_of self.old }
         ensures some { 1 ≤ length self.new.chosen.rows.items }
@@ -110,10 +108,9 @@ impl Writer {
         requires left { self.old.chosen.rows.items ≡ left_of (view_of self.old) }
         requires gone { self.old.gone.rows.items ≡ gone_of (view_of self.old) }
         requires some_left { 1 ≤ length self.old.chosen.rows.items }
-        ensures acts {
-            ChoosesIf L.Link N.NamenodeProtocol (wants (view_of self.old)) (view_of self.old)
-                (channel_view channel.old) namenode.old
-                result self.new.chosen.rows.items (channel_view channel.new) namenode.new }
+        ensures acts { ChoosesIf L.Link N.NamenodeProtocol (wants (view_of self.old))
+            (view_of self.old) (channel_view channel.old) namenode.old
+            result self.new.chosen.rows.items (channel_view channel.new) namenode.new }
         ensures same { SameLoans channel.old channel.new }
         ensures view { view_of self.new ≡ view_of self.old }
         ensures some { 1 ≤ length self.new.chosen.rows.items }

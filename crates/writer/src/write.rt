@@ -46,9 +46,8 @@ impl Writer {
     ) -> Turned
         requires state_value { self.old.state ≡ Streaming }
         requires buffers { Suffice self.old.terms store.old frame.old }
-        ensures {
-            Turns L.Link bytes.now (streamer_of self.old store.old frame.old link.old) result
-                (streamer_of self.new store.new frame.new link.new) }
+        ensures { Turns L.Link bytes.now (streamer_of self.old store.old frame.old link.old) result
+            (streamer_of self.new store.new frame.new link.new) }
     {
         if self.filling < self.packet_capacity() {
             if self.room_for(bytes.len()) == 0 {
@@ -75,9 +74,8 @@ impl Writer {
     ) -> Written
         requires state_value { self.old.state ≡ Streaming }
         requires buffers { Suffice self.old.terms store.old frame.old }
-        ensures {
-            Writes L.Link (streamer_of self.old store.old frame.old link.old) bytes.now
-                result.taken result.put_lost (streamer_of self.new store.new frame.new link.new) }
+        ensures { Writes L.Link (streamer_of self.old store.old frame.old link.old) bytes.now
+            result.taken result.put_lost (streamer_of self.new store.new frame.new link.new) }
     {
         // A place that runs along: how many bytes a turn takes is known after it alone, and their number is what the write answers.
         let mut taken = 0;
@@ -111,13 +109,11 @@ impl Writer {
         answer: &[u8],
         bytes: &[u8],
     ) -> Result<Written, Refusal>
-        ensures {
-            UnlessRefused
-                (refusal_for (view_of self.old) call.Write
-                    (lengths_of store.old frame.old request.now answer.now))
-                (Wrote L.Link bytes.now)
-                (streamer_of self.old store.old frame.old link.old) result
-                (streamer_of self.new store.new frame.new link.new) }
+        ensures { let lengths = lengths_of store.old frame.old request.now answer.now in
+            let before = streamer_of self.old store.old frame.old link.old in
+            let after = streamer_of self.new store.new frame.new link.new in
+            UnlessRefused (refusal_for (view_of self.old) call.Write lengths)
+            (Wrote L.Link bytes.now) before result after }
     {
         self.admit(Call::Write, Lengths::of(store, frame, request, answer))?;
         Ok(self.pour(link, store, frame, bytes))

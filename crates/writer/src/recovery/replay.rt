@@ -19,8 +19,8 @@ use sending::put::put_packet;
 impl Writer {
     // How many bytes the packet of that number has in its slot.
     fn held_len(&self, seqno: u64) -> usize
-        ensures value {
-            result ≡ size_at self.now.terms.slots (sizes_of self.now.held.records.items) seqno }
+        ensures value { result
+            ≡ size_at self.now.terms.slots (sizes_of self.now.held.records.items) seqno }
         ensures within { result ≤ capacity self.now.terms }
     {
         let at = (seqno % self.terms.slots as u64) as usize;
@@ -38,13 +38,11 @@ impl Writer {
         last: bool,
     ) -> Result<(), LinkLost>
         requires buffers { Suffice self.now.terms store.now frame.old }
-        ensures put {
-            L.Link.puts link.old
-                (octets_of (held_packet (view_of self.now) store.now offset seqno last))
-                (is_ok result) link.new }
-        ensures frame {
-            frame.new
-                ≡ over (held_packet (view_of self.now) store.now offset seqno last) frame.old }
+        ensures put { L.Link.puts link.old
+            (octets_of (held_packet (view_of self.now) store.now offset seqno last))
+            (is_ok result) link.new }
+        ensures frame { frame.new
+            ≡ over (held_packet (view_of self.now) store.now offset seqno last) frame.old }
     {
         let packet = WritePacket {
             offset,
@@ -76,9 +74,8 @@ impl SetUp {
     ) -> Replayed
         requires least_value { self.least ≡ least_of (view_of writer.now) }
         requires buffers { Suffice writer.now.terms store.now frame.old }
-        ensures {
-            ReplaysOn L.Link (view_of writer.now) store.now self frame.old link.old
-                result frame.new link.new }
+        ensures { ReplaysOn L.Link (view_of writer.now) store.now self frame.old link.old
+            result frame.new link.new }
     {
         let SetUp { least, stamp } = self;
         let finished = writer.state.has_ended();

@@ -37,9 +37,8 @@ impl Writer {
     // Goes on with the chosen pipeline, row by row in the table, the new stamp and its token.
     fn resume(&mut self, lost: Option<u64>, stamp: u64, token: Token, time: u64)
         requires { IsBrokenState self.old.state }
-        ensures {
-            view_of self.new
-                ≡ restored lost stamp token self.old.chosen.rows.items time (view_of self.old) }
+        ensures { view_of self.new
+            ≡ restored lost stamp token self.old.chosen.rows.items time (view_of self.old) }
     {
         let finished = self.state.has_ended();
         self.nodes.overwrite(self.chosen.as_slice());
@@ -61,9 +60,8 @@ impl Replayed {
         time: u64,
     ) -> Result<Recovered, Refusal>
         requires { IsBrokenState writer.old.state }
-        ensures {
-            UpdatesOn N.NamenodeProtocol self token choice writer.old.chosen.rows.items time
-                (view_of writer.old) namenode.old result (view_of writer.new) namenode.new }
+        ensures { UpdatesOn N.NamenodeProtocol self token choice writer.old.chosen.rows.items time
+            (view_of writer.old) namenode.old result (view_of writer.new) namenode.new }
     {
         let Replayed {
             stamp,

@@ -22,7 +22,7 @@ returns g c h =
     let n = g.met.N.Namenode in
     made g.C.Link g.N.NamenodeProtocol g.C.Chain.seen c.args.commands.now c.args.outcomes.now g.N.Namenode.entry
     (every g.C.Link g.N.NamenodeProtocol g.C.Chain.seen g.N.Namenode.entry
-      (record { setting = m.setting; putting = m.putting; answering = m.answering; transferring = m.transferring })
-      (record { listing = n.listing; stamping = n.stamping; updating = n.updating }))
+    (record { setting = m.setting; putting = m.putting; answering = m.answering; transferring = m.transferring })
+    (record { listing = n.listing; stamping = n.stamping; updating = n.updating }))
     (point_of h c.args.writer.now c.args.store.now c.args.link.now c.args.namenode.now) c.calls.i
     (λ (k : History). point_of k c.calls.writer c.calls.store c.calls.link c.calls.namenode) c.calls.outcomes (omega (arith, c.min-i-end.ensures)) (c.calls.invariant h)

@@ -1,5 +1,4 @@
-use Rattle.std.proofs.Common.{◌≡◌, Some, Ok, ap, ◌∙◌, subst}
-use Rattle.ack.specs.declared.ack.Verdict.TheVariants.{Failed}
+use Rattle.std.proofs.Common.{ap, ◌∙◌, subst}
 use Rattle.ack.proofs.Counted.{verdict_counted}
 use Rattle.sending.specs.Asking.{Heard, Hears}
 use Rattle.sending.proofs.Coming.{comes}

@@ -1,4 +1,4 @@
-use Rattle.std.proofs.Common.{◌≡◌, ◌≤◌, length, sym, ap, ◌∙◌, vec_items, arith}
+use Rattle.std.proofs.Common.{length, ap, ◌∙◌, vec_items, arith}
 use Rattle.ack.specs.declared.tally.FailedNodes.{FailedNodes}
 use Rattle.pipeline.specs.Survivors.{survivors, failed_of}
 use Rattle.pipeline.proofs.Splitting.{all_but}

@@ -1,4 +1,4 @@
-use Rattle.std.proofs.Common.{ℕ, ◌≤◌, List, get_or, vec_items, sym, refl, subst, arith}
+use Rattle.std.proofs.Common.{ℕ, ◌≤◌, List, get_or, sym, refl, subst, arith}
 use Rattle.writer.specs.Sizes.{capacity}
 use Rattle.writer.proofs.Rooms.{none_in}
 use Rattle.writer.proofs.tables.Tables.into_writer.Goals as goal
