@@ -8,6 +8,7 @@
 
 pub mod admit;
 pub mod beat;
+pub mod buffers;
 pub mod cause;
 pub mod close;
 pub mod filling;

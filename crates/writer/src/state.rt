@@ -48,3 +48,14 @@ pub struct Writer {
     ghost few: { (vec_len nodes.rows ≤ 8) × (vec_len chosen.rows ≤ 8) },
     ghost widths: { (stamp < 2 ^ 64) × (terms.block_id < 2 ^ 64) },
 }
+
+impl Writer {
+    ghost use Rattle.writer.specs.Views.{view_of};
+
+    /// What the writer is in the midst of, and what broke its pipeline. Nothing is done.
+    pub fn state(&self) -> State
+        ensures { result ≡ (view_of self.now).state }
+    {
+        self.state
+    }
+}
