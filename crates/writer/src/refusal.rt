@@ -100,7 +100,7 @@ impl Refusal {
             Refusal::Length => "the block is longer than its size, or that is above 2^63 - 1",
             Refusal::Nodes => "there are not 1 to 8 datanodes, or their lists differ in length",
             Refusal::Form => "a datanode, a storage type, a token or a text is out of form",
-            Refusal::Store => "the store is below three packets, or of another length than before",
+            Refusal::Store => "the store is below three packets, or not as long as at the opening",
             Refusal::Buffer => "the frame, request or answer buffer is too short",
             Refusal::SetUp(_) => "the pipeline could not be set up",
             Refusal::UnknownSeqno => "an answer passes with the number -2, which no packet has",
@@ -142,9 +142,9 @@ impl Refusal {
             | Refusal::Stamp
             | Refusal::Recovery(_)
             | Refusal::Update => {
-                "this writer is closed: another has to go on behind the confirmed bytes"
+                "this writer is closed: another has to write what is not confirmed"
             }
-            Refusal::Closed => "nothing was done, and nothing can be: another has to go on",
+            Refusal::Closed => "nothing was done: another writer has to go on with the block",
             Refusal::Broken => "nothing was done: recover, and then repeat the call",
             Refusal::Finished => "nothing was done: heed until the block is complete",
             Refusal::Complete => "nothing was done: close gives its record",
