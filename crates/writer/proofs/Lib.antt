@@ -1,3 +1,4 @@
+pub mod Lent
 pub mod Admitted
 pub mod Building
 pub mod Openings

@@ -1,6 +1,9 @@
 //! The four buffers that a writer's calls are lent.
-ghost use Rattle.std.specs.Prelude.{◌≡◌, ◌*◌, IfOk, vec_len};
+ghost use Rattle.std.specs.Prelude.{◌≡◌, ◌*◌, ◌≤◌, None, IfOk, vec_len};
 ghost use Rattle.packet.specs.Sizes.{capacity_of, frame_capacity_of};
+ghost use Rattle.writer.specs.declared.opening.Opening.{Opening};
+ghost use Rattle.writer.specs.Admits.{lengths_of};
+ghost use Rattle.writer.specs.Opening.{by_buffers};
 
 use crate::admit::MESSAGE_LEN;
 use held::table::SLOTS;
@@ -23,8 +26,8 @@ pub struct Buffers {
 
 impl Buffers {
     /// Buffers for packets of that size: a store of so many slots, and room for every frame,
-    /// request and answer. With three slots at least a block of that size can be opened over them.
-    /// A store whose length is no `usize` gets no memory either.
+    /// request and answer. With three slots or more no opening of that size is refused for them. A
+    /// store whose length is no `usize` is more than there is memory for.
     pub fn new(heap: Global, size: PacketSize, slots: usize) -> Result<Buffers, AllocError>
         ensures store { IfOk result (λ b.
             vec_len b.store ≡ slots * capacity_of 4 size.chunk size.packet) }
@@ -32,6 +35,9 @@ impl Buffers {
             vec_len b.frame ≡ frame_capacity_of 4 size.chunk size.packet) }
         ensures request { IfOk result (λ b. vec_len b.request ≡ 4096) }
         ensures answer { IfOk result (λ b. vec_len b.answer ≡ 4096) }
+        ensures opens { IfOk result (λ b. (o : Opening) → o.chunk_size ≡ size.chunk →
+            o.packet_size ≡ size.packet → 3 ≤ slots → by_buffers o
+            (lengths_of b.store.items b.frame.items b.request.items b.answer.items) ≡ None) }
     {
         let store_len = slots.checked_mul(size.capacity()).ok_or(AllocError)?;
         Ok(Buffers {

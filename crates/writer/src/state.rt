@@ -17,7 +17,7 @@ use kind::State;
 /// The writer of one block. `held` has a record for each slot; the packets held have the numbers from `first` on, `count` of them, with
 /// `waiting` bytes in all, and the packet being filled is the one behind them. The other tables of datanodes are room for a recovery.
 #[derive(Drop)]
-// `first` and `count` and no VecDeque: the numbers are the packets' own, and say by one remainder the record and the slot of each.
+// A packet's number says by one remainder which record and which slot it has.
 pub struct Writer {
     pub(crate) terms: Terms,
     pub(crate) held: HeldTable,
