@@ -144,22 +144,20 @@ impl<'a> Progress<'a> {
             Outcome::Recovered(Ok(recovered)) => self.recovered(rt, recovered, state)?,
             refused => {
                 if let Some(refusal) = refused.refusal() {
-                    self.refused(refusal)?;
+                    self.refused(rt, refusal)?;
                 }
             }
         }
         Ok(())
     }
 
-    fn refused(&self, refusal: Refusal) -> anyhow::Result<()> {
+    // A refusal that is no error passes; any other one ends the run.
+    fn refused(&self, rt: &HostRuntime, refusal: Refusal) -> anyhow::Result<()> {
         match refusal {
             Refusal::Broken if self.broken => Ok(()),
             Refusal::Complete if self.complete => Ok(()),
             Refusal::Places => Ok(()),
-            _ => {
-                let number = u8::from(refusal);
-                bail!("the writer refused with number {number}: {refusal}");
-            }
+            _ => refused(rt, "a call", refusal),
         }
     }
 
@@ -173,4 +171,11 @@ impl<'a> Progress<'a> {
         println!(rt; "  packets confirmed {confirmed}, heartbeats put {beats}")?;
         Ok(())
     }
+}
+
+/// Tells a refusal, and ends what was to be done. Its text is longer than what an error keeps.
+pub fn refused<T>(rt: &HostRuntime, what: &str, refusal: Refusal) -> anyhow::Result<T> {
+    let number = u8::from(refusal);
+    eprintln!(rt; "refused with number {number}: {refusal}")?;
+    bail!("{what} is refused with number {number}")
 }

@@ -1,6 +1,5 @@
 //! A block written by the block writer, through any chain.
-use crate::progress::Progress;
-use anyhow::{anyhow, bail};
+use crate::progress::{Progress, refused};
 use chain::meaning::Chain;
 use namenode::meaning::Namenode;
 use packet::size::PacketSize;
@@ -9,18 +8,12 @@ use runs::client::run;
 use writer::buffers::{Buffers, MOST_SLOTS};
 use writer::open::Opened;
 use writer::opening::Opening;
-use writer::refusal::Refusal;
 use writer::state::Writer;
 
 /// So many turns are more than a block of that length needs: each takes bytes, or hears of a packet, or mends the pipeline.
 fn turns(block: &[u8], capacity: usize) -> usize {
     let packets = block.len() / capacity.max(1);
     packets.saturating_mul(4).saturating_add(1024)
-}
-
-fn refused(what: &str, refusal: Refusal) -> anyhow::Error {
-    let number = u8::from(refusal);
-    anyhow!("{what} is refused with number {number}: {refusal}")
 }
 
 /// Opens the block, writes and finishes it, mends the pipeline as often as it breaks, and closes the block. Each recovery is told.
@@ -46,7 +39,9 @@ pub fn write_block<C: Chain, N: Namenode>(
         &mut buffers.request,
         &mut buffers.answer,
     )?;
-    outcome.map_err(|refusal| refused("the opening", refusal))?;
+    if let Err(refusal) = outcome {
+        return refused(rt, "the opening", refusal);
+    }
     let mut progress = Progress::new(block);
     for _ in 0..turns(block, size.capacity()) {
         if progress.is_complete() {
@@ -70,7 +65,8 @@ pub fn write_block<C: Chain, N: Namenode>(
         }
     }
     progress.show(rt)?;
-    writer
-        .close()
-        .map_err(|refusal| refused("the close", refusal))
+    match writer.close() {
+        Ok(record) => Ok(record),
+        Err(refusal) => refused(rt, "the close", refusal),
+    }
 }

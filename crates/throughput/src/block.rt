@@ -65,7 +65,7 @@ fn fill(bytes: &mut [u8]) {
 
 fn refused(refusal: Refusal) -> anyhow::Error {
     let number = u8::from(refusal);
-    anyhow!("the writer refused with number {number}: {refusal}")
+    anyhow!("refused with number {number}: {refusal}")
 }
 
 // Heeds the answers that have come, and counts those that confirm a packet.
