@@ -123,9 +123,10 @@ impl<'a> Progress<'a> {
         self.put(rt, put_lost, state)
     }
 
-    /// Takes in what a call came to. `state` is the writer's at the end of the turn: a pipeline that
-    /// one of its calls has broken is still broken then. A call of the same turn that a break or the
-    /// block's end came before is refused, and no error; nor is an end that has no places yet.
+    /// Takes in what a call came to. `state` is the writer's at the end of the turn: a pipeline
+    /// that one of its calls has broken is still broken then. A call of the same turn that a break
+    /// or the block's end came before is refused, and no error; nor is an end that has no places
+    /// yet.
     pub fn take(&mut self, rt: &HostRuntime, outcome: Outcome, state: State) -> anyhow::Result<()> {
         match outcome {
             Outcome::Wrote(Ok(written)) => {
