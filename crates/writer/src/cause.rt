@@ -10,8 +10,8 @@ use wire::field::DecodeError;
 /// What broke a pipeline.
 #[derive(Clone, Copy, Debug, PartialEq, Eq)]
 pub enum Cause {
-    /// The frame of the packet of that number was lost. The number is the one in the frame's header,
-    /// which is -1 of a heartbeat.
+    /// The frame of the packet of that number was lost. The number is the one in the frame's
+    /// header, which is -1 of a heartbeat.
     Put(u64),
     /// The link was lost.
     Link,
