@@ -1,9 +1,9 @@
 //! A block of random sizes, written by random calls.
 use crate::calls::{command, fill};
-use crate::check::{Before, is_closed, is_refused, is_told, is_whole};
+use crate::check::{Before, is_closed, is_in_state, is_refused, is_told, is_whole};
 use crate::model::{Model, Phase};
 use crate::plan::Plan;
-use crate::site::Site;
+use crate::surroundings::Surroundings;
 use crate::tally::Tally;
 use anyhow::{anyhow, bail, ensure};
 use faults::chance::Chance;
@@ -21,7 +21,7 @@ const PART: usize = 128;
 #[derive(Drop)]
 struct Run {
     writer: Writer,
-    site: Site,
+    around: Surroundings,
     model: Model,
     capacity: usize,
     time: u64,
@@ -35,14 +35,15 @@ impl Run {
         self.go_on(chance);
         let command = command(chance, &self.model, &bytes, self.time);
         let other = chance.one_in(32);
-        let before = Before::of(self.site.link.inner());
-        let outcome = self.site.call(&mut self.writer, command, other);
+        let before = Before::of(self.around.link.inner());
+        let outcome = self.around.call(&mut self.writer, command, other);
         tally.take(outcome);
         is_refused(&self.model, &command, outcome, other)?;
         self.model
-            .take(&command, outcome, self.site.namenode.inner())?;
-        is_whole(self.site.link.inner(), &self.model, self.capacity)?;
-        is_told(&self.site.link, before, outcome, self.capacity)
+            .take(&command, outcome, self.around.namenode.inner())?;
+        is_in_state(&self.model, self.writer.state())?;
+        is_whole(self.around.link.inner(), &self.model, self.capacity)?;
+        is_told(&self.around.link, before, outcome, self.capacity)
     }
 
     // The clock goes on, and now and then back.
@@ -59,14 +60,14 @@ impl Run {
     fn close(self, tally: &mut Tally) -> anyhow::Result<()> {
         let Run {
             writer,
-            site,
+            around,
             model,
             ..
         } = self;
-        let bench = site.link.inner();
+        let bench = around.link.inner();
         match (writer.close(), model.phase) {
             (Ok(record), Phase::Complete) => {
-                is_closed(bench, &model, site.namenode.inner().entry(), &record)?;
+                is_closed(bench, &model, around.namenode.inner().entry(), &record)?;
                 tally.record();
             }
             (Err(Refusal::Incomplete(held)), Phase::Whole) => {
@@ -105,20 +106,21 @@ pub fn write_block(rt: &HostRuntime, chance: &mut Chance, tally: &mut Tally) -> 
     let plan = Plan::random(chance)?;
     let mut bytes = vec![in rt.alloc(); 0u8; plan.initial as usize]?;
     fill(chance, &mut bytes);
-    let mut site = Site::new(rt.alloc(), chance, plan, &bytes)?;
+    let mut around = Surroundings::new(rt.alloc(), chance, plan, &bytes)?;
     tally.open();
-    let Opened { writer, outcome } = site.open(rt.alloc(), plan)?;
+    let Opened { writer, outcome } = around.open(rt.alloc(), plan)?;
     if let Err(refusal) = outcome {
         tally.refuse(refusal);
+        let number = u8::from(refusal);
         ensure!(
-            u8::from(refusal) == 8,
-            "an opening in form is refused for its form"
+            number == 8,
+            "an opening in form is refused with number {number}: {refusal}"
         );
         return Ok(());
     }
     let mut run = Run {
         writer,
-        site,
+        around,
         model: Model::new(bytes, plan.nodes),
         capacity: plan.size.capacity(),
         time: 0,

@@ -1,7 +1,7 @@
 //! What must be true after every call, and of a closing record.
-use crate::model::Model;
+use crate::model::{Model, Phase};
 use crate::nodes::Nodes;
-use anyhow::{Context, ensure};
+use anyhow::{Context, bail, ensure};
 use bench::state::Bench;
 use faults::faulty_link::FaultyLink;
 use pool::entry::BlockEntry;
@@ -9,6 +9,7 @@ use proto::block::ExtendedBlock;
 use runs::command::{Command, Outcome};
 use writer::heed::Heeded;
 use writer::refusal::Refusal;
+use writer::state::kind::State;
 
 /// How a pipeline stood.
 #[derive(Clone, Copy)]
@@ -42,9 +43,34 @@ pub fn is_refused(
             None => true,
         },
     };
+    if as_it_must_be {
+        return Ok(());
+    }
+    let wrong = "a call is refused that must not be, or not one that must";
+    match refusal {
+        Some(refusal) => {
+            let number = u8::from(refusal);
+            bail!("{wrong}: refused with number {number}: {refusal}")
+        }
+        None => bail!("{wrong}"),
+    }
+}
+
+/// State: the writer is in the midst of what its calls have told, and what broke its pipeline
+/// counts against the datanodes that were told.
+pub fn is_in_state(model: &Model, state: State) -> anyhow::Result<()> {
+    let as_told = match (state, model.phase) {
+        (State::Streaming, Phase::Whole) => !model.finished,
+        (State::Finishing, Phase::Whole) => model.finished,
+        (State::Broken { cause, finished }, Phase::Broken(failed)) => {
+            cause.failed_nodes() == failed && finished == model.finished
+        }
+        (State::Complete, Phase::Complete) | (State::Closed, Phase::Closed) => true,
+        _ => false,
+    };
     ensure!(
-        as_it_must_be,
-        "a call is refused that must not be, or not one that must"
+        as_told,
+        "the writer is not where its calls tell: it is {state}"
     );
     Ok(())
 }

@@ -8,7 +8,7 @@ mod cluster;
 mod model;
 mod nodes;
 mod plan;
-mod site;
+mod surroundings;
 mod tally;
 
 use anyhow::Context;

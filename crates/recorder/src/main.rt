@@ -24,7 +24,7 @@ use take::take_lines;
 
 fn run(rt: &HostRuntime) -> anyhow::Result<()> {
     let options = Options::from_args(rt)?;
-    // Stays `map_err`: with `context` the cause would be printed too.
+    // `map_err`, since `context` would print the cause too.
     let size = PacketSize::new(options.chunk, options.packet).map_err(|_| anyhow!(
         "these chunk and packet sizes do not go together"
     ))?;
@@ -32,7 +32,6 @@ fn run(rt: &HostRuntime) -> anyhow::Result<()> {
     rt.stdin().read_to_end(&mut text)?;
     let mut block = Vec::new(rt.alloc());
     take_lines(rt, text.as_slice(), options.block, &mut block)?;
-    // Size and block go on as two, and so does the replacement: a struct of them would be made here and taken apart in each part.
     send_block(rt, size, block.as_slice())?;
     let replace = options.replacement();
     keep_block(rt, &options, size, replace, block.as_slice())?;

@@ -3,7 +3,6 @@ use packet::frame::WritePacket;
 use recording::cut::{packet_count, packet_data};
 
 // By number, not by `chunks`: what `packet_count` promises speaks of packet `k`, and the empty last one is packet `packet_count`.
-// Block and capacity stay two parameters, as those of `recording` are: a struct of them would be made for these few functions alone.
 /// Packet `k` of the block, whose packets have `capacity` bytes each. The one behind them all is the last, and has none.
 pub fn packet_at(block: &[u8], capacity: usize, k: usize) -> WritePacket<'_> {
     WritePacket {

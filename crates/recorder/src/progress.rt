@@ -1,12 +1,11 @@
 //! How far a block is written, and what each call of the writer came to.
-use ack::tally::FailedNodes;
 use anyhow::bail;
 use runs::command::{Command, Outcome};
 use writer::beat::Beat;
-use writer::cause::Cause;
 use writer::heed::Heeded;
 use writer::recover::Recovered;
 use writer::refusal::Refusal;
+use writer::state::kind::State;
 
 /// So many turns without an answer are too many.
 const PATIENCE: usize = 16;
@@ -61,8 +60,24 @@ impl<'a> Progress<'a> {
         }
     }
 
+    // Tells the state of a writer whose pipeline a call has broken, and why.
+    fn is_broken(&mut self, rt: &HostRuntime, state: State) -> anyhow::Result<()> {
+        self.broken = true;
+        let confirmed = self.confirmed;
+        println!(rt; "  after {confirmed} confirmed packets the writer is {state}")?;
+        Ok(())
+    }
+
+    // A call put frames, the last of which may be lost.
+    fn put(&mut self, rt: &HostRuntime, lost: bool, state: State) -> anyhow::Result<()> {
+        if lost {
+            return self.is_broken(rt, state);
+        }
+        Ok(())
+    }
+
     // Counts an answer, or that none came.
-    fn heed(&mut self, rt: &HostRuntime, heeded: Heeded) -> anyhow::Result<()> {
+    fn heed(&mut self, rt: &HostRuntime, heeded: Heeded, state: State) -> anyhow::Result<()> {
         match heeded {
             Heeded::Nothing => {
                 self.quiet = self.quiet.saturating_add(1);
@@ -79,17 +94,19 @@ impl<'a> Progress<'a> {
                 self.confirmed = self.confirmed.saturating_add(1);
                 self.complete = true;
             }
-            Heeded::Broken(cause) => {
-                self.broken = true;
-                show_break(rt, cause, self.confirmed)?;
-            }
+            Heeded::Broken(_) => self.is_broken(rt, state)?,
         }
         Ok(())
     }
 
     // What a recovery came to. The pipeline is broken again where a frame was lost.
-    fn recovered(&mut self, rt: &HostRuntime, recovered: Recovered) -> anyhow::Result<()> {
-        self.broken = recovered.put_lost;
+    fn recovered(
+        &mut self,
+        rt: &HostRuntime,
+        recovered: Recovered,
+        state: State,
+    ) -> anyhow::Result<()> {
+        self.broken = false;
         let Recovered {
             choice,
             stamp,
@@ -103,45 +120,45 @@ impl<'a> Progress<'a> {
             None => println!(rt; "  no new datanode")?,
         }
         println!(rt; "  stamp {stamp}, packets put again {replayed}, a frame lost {put_lost}")?;
-        Ok(())
+        self.put(rt, put_lost, state)
     }
 
-    /// Takes in what a call came to. A call of the same turn that a break or the block's end came before is refused, and no error; nor is an
-    /// end for which there are no places yet.
-    pub fn take(&mut self, rt: &HostRuntime, outcome: Outcome) -> anyhow::Result<()> {
+    /// Takes in what a call came to. `state` is the writer's at the end of the turn: a pipeline
+    /// that one of its calls has broken is still broken then. A call of the same turn that a break
+    /// or the block's end came before is refused, and no error; nor is an end that has no places
+    /// yet.
+    pub fn take(&mut self, rt: &HostRuntime, outcome: Outcome, state: State) -> anyhow::Result<()> {
         match outcome {
             Outcome::Wrote(Ok(written)) => {
                 self.rest = self.rest.get(written.taken..).unwrap_or(&[]);
-                self.broken = written.put_lost;
+                self.put(rt, written.put_lost, state)?;
             }
             Outcome::Beaten(Ok(beat)) => {
                 self.beats = self.beats.saturating_add(u64::from(beat == Beat::Put));
-                self.broken = beat == Beat::Lost;
+                self.put(rt, beat == Beat::Lost, state)?;
             }
-            Outcome::Heard(Ok(heeded)) => self.heed(rt, heeded)?,
+            Outcome::Heard(Ok(heeded)) => self.heed(rt, heeded, state)?,
             Outcome::Ended(Ok(ended)) => {
                 self.finished = true;
-                self.broken = ended.put_lost;
+                self.put(rt, ended.put_lost, state)?;
             }
-            Outcome::Recovered(Ok(recovered)) => self.recovered(rt, recovered)?,
+            Outcome::Recovered(Ok(recovered)) => self.recovered(rt, recovered, state)?,
             refused => {
                 if let Some(refusal) = refused.refusal() {
-                    self.refused(refusal)?;
+                    self.refused(rt, refusal)?;
                 }
             }
         }
         Ok(())
     }
 
-    fn refused(&self, refusal: Refusal) -> anyhow::Result<()> {
+    // A refusal that is no error passes; any other one ends the run.
+    fn refused(&self, rt: &HostRuntime, refusal: Refusal) -> anyhow::Result<()> {
         match refusal {
             Refusal::Broken if self.broken => Ok(()),
             Refusal::Complete if self.complete => Ok(()),
             Refusal::Places => Ok(()),
-            _ => {
-                let number = u8::from(refusal);
-                bail!("the writer refuses with number {number}");
-            }
+            _ => refused(rt, "a call", refusal),
         }
     }
 
@@ -157,14 +174,9 @@ impl<'a> Progress<'a> {
     }
 }
 
-// Tells which datanodes failed, by their positions, and when.
-fn show_break(rt: &HostRuntime, cause: Cause, confirmed: u64) -> anyhow::Result<()> {
-    let FailedNodes { positions, .. } = cause.failed_nodes();
-    println!(rt;
-        "  broken after {confirmed} packets were confirmed; datanodes that failed, by position:"
-    )?;
-    for (position, _) in positions.iter().enumerate().filter(|(_, failed)| **failed) {
-        println!(rt; "    {position}")?;
-    }
-    Ok(())
+/// Tells a refusal, and ends what was to be done. Its text is longer than what an error keeps.
+pub fn refused<T>(rt: &HostRuntime, what: &str, refusal: Refusal) -> anyhow::Result<T> {
+    let number = u8::from(refusal);
+    eprintln!(rt; "refused with number {number}: {refusal}")?;
+    bail!("{what} is refused with number {number}")
 }

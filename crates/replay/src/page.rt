@@ -31,7 +31,7 @@ impl<'a> Page<'a> {
 
     pub fn refused(&self, refusal: Refusal) -> anyhow::Result<()> {
         let number = u8::from(refusal);
-        println!(self.rt; "error {number}")?;
+        println!(self.rt; "error {number}: {refusal}")?;
         Ok(())
     }
 

@@ -1,8 +1,8 @@
 //! A run being replayed.
-use crate::buffers::Buffers;
 use crate::page::Page;
 use ack::tally::FailedNodes;
 use anyhow::ensure;
+use packet::size::PacketSize;
 use scripted::act::{Act, Call};
 use scripted::clock::Clock;
 use scripted::link::ScriptedLink;
@@ -11,7 +11,8 @@ use scripted::opening::ScriptedOpening;
 use scripted::scripted_namenode::ScriptedNamenode;
 use scripted::words::framed;
 use spool::state::Spool;
-use std::alloc::Global;
+use std::alloc::{AllocError, Global};
+use writer::buffers::{Buffers, MOST_SLOTS};
 use writer::state::Writer;
 
 /// The recorded runs have the client's uuid masked by this one, so the block is opened with it.
@@ -69,6 +70,14 @@ fn room_for(opening: &ScriptedOpening) -> anyhow::Result<usize> {
     Ok(opening.initial_len as usize)
 }
 
+// Buffers as long as a writer can use. For sizes that the opening is refused for the least ones do.
+fn buffers_for(heap: Global, opening: &ScriptedOpening) -> Result<Buffers, AllocError> {
+    let size = PacketSize::new(opening.chunk_size, opening.packet_size).unwrap_or(
+        PacketSize::least(),
+    );
+    Buffers::new(heap, size, MOST_SLOTS)
+}
+
 impl Session {
     pub fn new(heap: Global, opening: ScriptedOpening, written: usize) -> anyhow::Result<Session> {
         let clock = Clock::new(heap)?;
@@ -79,7 +88,7 @@ impl Session {
         let link = ScriptedLink::new(heap, spool, Log::new(heap, clock.share()?));
         let log = Log::new(heap, clock);
         let namenode = ScriptedNamenode::new(heap, &opening, UUID, log)?;
-        let buffers = Buffers::new(heap, &opening)?;
+        let buffers = buffers_for(heap, &opening)?;
         let len = opening.initial_len;
         Ok(Session {
             heap,

@@ -5,6 +5,7 @@ use anyhow::{anyhow, bail, ensure};
 use packet::size::PacketSize;
 use replace::datanode::{Policy, ReplaceDatanodeOnFailure};
 use spool::state::Spool;
+use writer::buffers::{Buffers, MOST_SLOTS};
 use writer::heed::Heeded;
 use writer::open::Opened;
 use writer::opening::Opening;
@@ -14,10 +15,6 @@ use writer::state::Writer;
 const CHUNK: u32 = 512;
 
 const PACKET: u32 = 65_536;
-
-const SLOTS: usize = 101;
-
-const MESSAGE: usize = 4096;
 
 const NODES: u64 = 3;
 
@@ -68,27 +65,7 @@ fn fill(bytes: &mut [u8]) {
 
 fn refused(refusal: Refusal) -> anyhow::Error {
     let number = u8::from(refusal);
-    anyhow!("the writer refuses with number {number}")
-}
-
-// The buffers that the writer is lent.
-#[derive(Drop)]
-struct Buffers {
-    store: Vec<u8>,
-    frame: Vec<u8>,
-    request: Vec<u8>,
-    answer: Vec<u8>,
-}
-
-impl Buffers {
-    fn new(rt: &HostRuntime, size: PacketSize) -> anyhow::Result<Buffers> {
-        Ok(Buffers {
-            store: vec![in rt.alloc(); 0u8; size.capacity().saturating_mul(SLOTS)]?,
-            frame: vec![in rt.alloc(); 0u8; size.frame_capacity()]?,
-            request: vec![in rt.alloc(); 0u8; MESSAGE]?,
-            answer: vec![in rt.alloc(); 0u8; MESSAGE]?,
-        })
-    }
+    anyhow!("refused with number {number}: {refusal}")
 }
 
 // Heeds the answers that have come, and counts those that confirm a packet.
@@ -98,7 +75,7 @@ fn heed_all(
     buffers: &mut Buffers,
 ) -> anyhow::Result<u64> {
     let mut confirmed = 0u64;
-    for _ in 0..SLOTS {
+    for _ in 0..MOST_SLOTS {
         let heeded = writer
             .heed(
                 sink,
@@ -147,7 +124,7 @@ pub fn write_mebibytes(rt: &HostRuntime, mebibytes: usize) -> anyhow::Result<Wri
     let size = PacketSize::new(CHUNK, PACKET).map_err(|_| anyhow!("the sizes do not go together"))?;
     let mut part = vec![in rt.alloc(); 0u8; MEBIBYTE]?;
     fill(&mut part);
-    let mut buffers = Buffers::new(rt, size)?;
+    let mut buffers = Buffers::new(rt.alloc(), size, MOST_SLOTS)?;
     let mut sink = Sink::over(Spool::over(rt.alloc(), Vec::new(rt.alloc()), NODES)?);
     let Opened {
         mut writer,

@@ -1,3 +1,4 @@
+pub mod Lent
 pub mod Admitted
 pub mod Openings
 pub mod Replaying

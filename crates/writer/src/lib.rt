@@ -1,13 +1,14 @@
 //! The writer of one replicated block: open, write, heed, beat, recover, finish, close.
 //!
-//! Each call but `close` is lent four buffers, as `&mut` those that it may write: so its signature says which ones it leaves alone, as one
-//! struct of four could not. That they suffice for this writer's terms is asked by the methods below a call (`store_len`, `terms_in_bounds`), since it
-//! is a fact about a buffer and a writer, which no type of one of them could carry. So is the state that the call was admitted in, and what
-//! a recovery has chosen: a type for each state would have to move the writer, which its owner keeps, at every call.
+//! Each call but `state` and `close` is lent four buffers (`buffers`), as `&mut` those that it may
+//! write: so its signature says which ones it leaves alone. That they suffice for this writer's
+//! terms is asked by the methods below a call (`store_len`, `terms_in_bounds`). So is the state
+//! that the call was admitted in, and what a recovery has chosen.
 #![tactic(auto)]
 
 pub mod admit;
 pub mod beat;
+pub mod buffers;
 pub mod cause;
 pub mod close;
 pub mod filling;

@@ -4,6 +4,8 @@ ghost use Rattle.writer.specs.Refusals.{number_of};
 
 use pipeline::add_datanode::NoDatanode;
 use pipeline::reply::ReplyError;
+use std::error::Error;
+use std::fmt;
 
 /// Why a call was refused.
 #[derive(Clone, Copy, Debug, PartialEq, Eq)]
@@ -88,3 +90,86 @@ impl From<Refusal> for u8 {
         }
     }
 }
+
+impl Refusal {
+    // What happened. What came of a request, and how many packets are held, is told behind it.
+    fn event(&self) -> &'static str {
+        match self {
+            Refusal::ChunkSize => "the chunk size is 0 or above 1,048,576",
+            Refusal::PacketSize => "the packet size is 1 to chunk size + 36, or above 16,777,216",
+            Refusal::Length => "the block is longer than its size, or that is above 2^63 - 1",
+            Refusal::Nodes => "there are not 1 to 8 datanodes, or their lists differ in length",
+            Refusal::Form => "a datanode, a storage type, a token or a text is out of form",
+            Refusal::Store => "the store is below three packets, or not as long as at the opening",
+            Refusal::Buffer => "the frame, request or answer buffer is too short",
+            Refusal::SetUp(_) => "the pipeline could not be set up",
+            Refusal::UnknownSeqno => "an answer passes with the number -2, which no packet has",
+            Refusal::Unexpected =>
+                "an answer passes with another number than the first held packet's",
+            Refusal::AllFailed => "no datanode is left",
+            Refusal::PastPipeline => "a position that failed lies past the pipeline",
+            Refusal::Replacement(_) => "the datanode that failed could not be replaced",
+            Refusal::Stamp => "the namenode gave no new stamp, or a token out of form",
+            Refusal::Recovery(_) => "the pipeline could not be set up again",
+            Refusal::Update => "the namenode refused the new pipeline",
+            Refusal::Closed => "the writer is closed",
+            Refusal::Broken => "the pipeline is broken",
+            Refusal::Finished => "the last packet is handed over, and no more bytes are taken",
+            Refusal::Complete => "the block is complete",
+            Refusal::Whole => "the pipeline is whole",
+            Refusal::Places => "the slots have no room for the packets that end the block",
+            Refusal::Incomplete(_) => "the block is not complete",
+        }
+    }
+
+    // What it means for the block, and what its user can do.
+    fn consequence(&self) -> &'static str {
+        match self {
+            Refusal::ChunkSize
+            | Refusal::PacketSize
+            | Refusal::Length
+            | Refusal::Nodes
+            | Refusal::Form => "nothing was sent, and this writer is closed: mend it and open anew",
+            Refusal::Store | Refusal::Buffer => {
+                "nothing was done: an opening leaves a closed writer, a later call may be repeated"
+            }
+            Refusal::SetUp(_) => "this writer is closed: the block has to be opened anew",
+            Refusal::UnknownSeqno
+            | Refusal::Unexpected
+            | Refusal::AllFailed
+            | Refusal::PastPipeline
+            | Refusal::Replacement(_)
+            | Refusal::Stamp
+            | Refusal::Recovery(_)
+            | Refusal::Update => {
+                "this writer is closed: another has to write what is not confirmed"
+            }
+            Refusal::Closed => "nothing was done: another writer has to go on with the block",
+            Refusal::Broken => "nothing was done: recover, and then repeat the call",
+            Refusal::Finished => "nothing was done: heed until the block is complete",
+            Refusal::Complete => "nothing was done: close gives its record",
+            Refusal::Whole => "nothing was done, and there is nothing to recover",
+            Refusal::Places =>
+                "nothing was done: heed until a packet is confirmed, and then repeat it",
+            Refusal::Incomplete(_) => "there is no record, and the writer is gone",
+        }
+    }
+}
+
+/// What happened, and behind it what that means for the block.
+impl fmt::Display for Refusal {
+    fn fmt<W: fmt::Write>(&self, f: &mut fmt::Formatter<W>) -> fmt::Result {
+        let event = self.event();
+        let consequence = self.consequence();
+        match self {
+            Refusal::SetUp(why) | Refusal::Recovery(why) => {
+                write!(f, "{event} ({why}); {consequence}")
+            }
+            Refusal::Replacement(why) => write!(f, "{event} ({why}); {consequence}"),
+            Refusal::Incomplete(held) => write!(f, "{event} (packets held {held}); {consequence}"),
+            _ => write!(f, "{event}; {consequence}"),
+        }
+    }
+}
+
+impl Error for Refusal {}

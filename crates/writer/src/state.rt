@@ -18,7 +18,7 @@ use kind::State;
 /// The writer of one block. `held` has a record for each slot; the packets held have the numbers from `first` on, `count` of them, with
 /// `waiting` bytes in all, and the packet being filled is the one behind them. The other tables of datanodes are room for a recovery.
 #[derive(Drop)]
-// `first` and `count` and no VecDeque: the numbers are the packets' own, and say by one remainder the record and the slot of each.
+// A packet's number says by one remainder which record and which slot it has.
 pub struct Writer {
     pub(crate) terms: Terms,
     pub(crate) held: HeldTable,
@@ -50,4 +50,15 @@ pub struct Writer {
     ghost counted: { IsCounted (failed_on state) },
     ghost few: { (vec_len nodes.rows ≤ 8) × (vec_len chosen.rows ≤ 8) },
     ghost widths: { (stamp < 2 ^ 64) × (terms.block_id < 2 ^ 64) },
+}
+
+impl Writer {
+    ghost use Rattle.writer.specs.Views.{view_of};
+
+    /// What the writer is in the midst of, and what broke its pipeline. Nothing is done.
+    pub fn state(&self) -> State
+        ensures { result ≡ (view_of self.now).state }
+    {
+        self.state
+    }
 }

@@ -2,18 +2,18 @@
 use std::fmt::Debug;
 use std::process::Abort;
 
-/// Where a test is: which of its runs it performs, and which step of that one. Both are counted from 0.
+/// Which action a test is at: the number of its run, and the action's in that one, both from 0.
 #[derive(Clone, Copy)]
-pub struct Place {
+pub struct ActionNumber {
     pub case: usize,
-    pub step: usize,
+    pub action: usize,
 }
 
-/// The two are equal, or the test ends with its place and with both.
-pub fn agree<T: PartialEq + Debug>(rt: &impl Abort, place: Place, came: &T, wanted: &T) {
-    let Place { case, step } = place;
+/// The two are equal, or the test ends with the action's number and with both.
+pub fn agree<T: PartialEq + Debug>(rt: &impl Abort, number: ActionNumber, came: &T, wanted: &T) {
+    let ActionNumber { case, action } = number;
     assert!(rt;
         came == wanted,
-        "run {case}, step {step}: {came:?} came, and not {wanted:?}"
+        "run {case}, action {action}: {came:?} came, and not {wanted:?}"
     );
 }

@@ -1,15 +1,7 @@
-//! The four buffers that a writer's calls are lent.
+//! Buffers of any lengths, copied and compared.
 use std::alloc::{AllocError, Global};
 use writer::admit::Lengths;
-
-/// The four buffers.
-#[derive(Drop)]
-pub struct Buffers {
-    pub store: Vec<u8>,
-    pub frame: Vec<u8>,
-    pub request: Vec<u8>,
-    pub answer: Vec<u8>,
-}
+use writer::buffers::Buffers;
 
 /// The least of each, for packets of one chunk of four bytes.
 pub const LEAST: Lengths = Lengths {
@@ -32,42 +24,41 @@ fn resized(octets: &Vec<u8>, len: usize) -> Result<Vec<u8>, AllocError> {
     Ok(copy)
 }
 
-impl Buffers {
-    /// Buffers of these lengths, with nothing written to them.
-    pub fn new(heap: Global, lengths: Lengths) -> Result<Buffers, AllocError> {
-        let none = Buffers {
-            store: Vec::new(heap),
-            frame: Vec::new(heap),
-            request: Vec::new(heap),
-            answer: Vec::new(heap),
-        };
-        none.with_lengths(lengths)
-    }
+/// Buffers of these lengths, with nothing written to them.
+pub fn unwritten(heap: Global, lengths: Lengths) -> Result<Buffers, AllocError> {
+    let none = Buffers {
+        store: Vec::new(heap),
+        frame: Vec::new(heap),
+        request: Vec::new(heap),
+        answer: Vec::new(heap),
+    };
+    with_lengths(&none, lengths)
+}
 
-    /// A copy of them, cut or continued to these lengths.
-    pub fn with_lengths(&self, lengths: Lengths) -> Result<Buffers, AllocError> {
-        Ok(Buffers {
-            store: resized(&self.store, lengths.store)?,
-            frame: resized(&self.frame, lengths.frame)?,
-            request: resized(&self.request, lengths.request)?,
-            answer: resized(&self.answer, lengths.answer)?,
-        })
-    }
+/// A copy of these buffers, cut or continued to these lengths.
+pub fn with_lengths(buffers: &Buffers, lengths: Lengths) -> Result<Buffers, AllocError> {
+    Ok(Buffers {
+        store: resized(&buffers.store, lengths.store)?,
+        frame: resized(&buffers.frame, lengths.frame)?,
+        request: resized(&buffers.request, lengths.request)?,
+        answer: resized(&buffers.answer, lengths.answer)?,
+    })
+}
 
-    /// A copy of them, to compare them with later.
-    pub fn copy(&self) -> Result<Buffers, AllocError> {
-        Ok(Buffers {
-            store: self.store.clone()?,
-            frame: self.frame.clone()?,
-            request: self.request.clone()?,
-            answer: self.answer.clone()?,
-        })
-    }
+/// A copy of these buffers, to compare them with later.
+pub fn copy_of(buffers: &Buffers) -> Result<Buffers, AllocError> {
+    Ok(Buffers {
+        store: buffers.store.clone()?,
+        frame: buffers.frame.clone()?,
+        request: buffers.request.clone()?,
+        answer: buffers.answer.clone()?,
+    })
+}
 
-    pub fn same_as(&self, other: &Buffers) -> bool {
-        self.store.as_slice() == other.store.as_slice()
-            && self.frame.as_slice() == other.frame.as_slice()
-            && self.request.as_slice() == other.request.as_slice()
-            && self.answer.as_slice() == other.answer.as_slice()
-    }
+/// Whether each buffer is as that of the others.
+pub fn are_same(buffers: &Buffers, others: &Buffers) -> bool {
+    buffers.store.as_slice() == others.store.as_slice()
+        && buffers.frame.as_slice() == others.frame.as_slice()
+        && buffers.request.as_slice() == others.request.as_slice()
+        && buffers.answer.as_slice() == others.answer.as_slice()
 }

@@ -1,13 +1,13 @@
 //! A whole run as data, and its performance.
-use crate::agree::{Place, agree};
-use crate::buffers::{Buffers, LEAST};
+use crate::action::Action;
+use crate::agree::{ActionNumber, agree};
+use crate::buffers::{LEAST, unwritten};
 use crate::end::End;
 use crate::field::{Field, with_fields};
 use crate::link::{Instead, TestLink};
 use crate::nodes::Nodes;
 use crate::run::Run;
 use crate::sample::{B, D, node, opening, token};
-use crate::step::Step;
 use crate::test_namenode::{HasEntry, TestNamenode};
 use bench::state::Bench;
 use pool::memory::{House, Pool};
@@ -18,7 +18,7 @@ use std::test::Fail;
 use writer::admit::Lengths;
 use writer::refusal::Refusal;
 
-/// A run: what the block is opened with, the steps one after another, and what they come to.
+/// A run: what the block is opened with, the actions one after another, and what they come to.
 #[derive(Clone, Copy)]
 pub struct Case<'a> {
     /// How many datanodes the block has, of the five that there are.
@@ -34,7 +34,7 @@ pub struct Case<'a> {
     /// The number that the opening is refused with, or 0; and the refusal, where the case says more than its number.
     pub opened: u8,
     pub why: Option<Refusal>,
-    pub steps: &'a [Step],
+    pub actions: &'a [Action],
     pub end: End,
 }
 
@@ -47,7 +47,7 @@ pub enum Namenodes {
     Test(TestNamenode),
 }
 
-/// A new block on two datanodes, with a store of five packets of four bytes each, and no step.
+/// A new block on two datanodes, with a store of five packets of four bytes each, and no action.
 pub const CASE: Case<'static> = Case {
     nodes: 2,
     fields: &[],
@@ -57,7 +57,7 @@ pub const CASE: Case<'static> = Case {
     set_up: None,
     opened: 0,
     why: None,
-    steps: &[],
+    actions: &[],
     end: End::Open,
 };
 
@@ -77,7 +77,7 @@ fn pool(heap: Global, in_form: bool) -> Result<Pool, Fail> {
     Ok(Pool::new(heap, 1001, 0, &[], token(in_form)?, &spares)?)
 }
 
-// Opens the block over a chain, plays the steps, and looks at the end.
+// Opens the block over a chain, plays the actions, and looks at the end.
 fn perform<C: Nodes + Drop, N: HasEntry>(
     rt: &impl Abort,
     heap: Global,
@@ -88,19 +88,19 @@ fn perform<C: Nodes + Drop, N: HasEntry>(
 ) -> Result<(), Fail> {
     let link = TestLink::over(heap, chain, case.set_up);
     let block = with_fields(opening(case.nodes), case.fields);
-    let (mut run, opened) = Run::open(heap, block, link, Buffers::new(heap, case.lengths)?)?;
+    let (mut run, opened) = Run::open(heap, block, link, unwritten(heap, case.lengths)?)?;
     case.is_opened(rt, i, opened.err());
-    run.play(rt, namenode, i, case.steps)?;
+    run.play(rt, namenode, i, case.actions)?;
     case.end.comes(rt, run, namenode)
 }
 
 impl Case<'_> {
-    // The opening came to what it had to. It has no place among the steps, so it is told as the first.
+    // The opening came to what it had to. It has no number among the actions, so it is told as the first.
     fn is_opened(&self, rt: &impl Abort, i: usize, refusal: Option<Refusal>) {
-        let place = Place { case: i, step: 0 };
-        agree(rt, place, &refusal.map_or(0, u8::from), &self.opened);
+        let number = ActionNumber { case: i, action: 0 };
+        agree(rt, number, &refusal.map_or(0, u8::from), &self.opened);
         if self.why.is_some() {
-            agree(rt, place, &refusal, &self.why);
+            agree(rt, number, &refusal, &self.why);
         }
     }
 

@@ -8,7 +8,7 @@ use std::process::Abort;
 use std::test::Fail;
 use writer::refusal::Refusal;
 
-/// What is to be so when the steps are done, and the writer is given up.
+/// What is to be so when the actions are done, and the writer is given up.
 #[derive(Clone, Copy)]
 pub enum End {
     /// Nothing more.

@@ -2,6 +2,8 @@
 #![tactic(auto)]
 
 #[cfg(test)]
+mod action;
+#[cfg(test)]
 mod agree;
 #[cfg(test)]
 mod buffers;
@@ -23,8 +25,6 @@ mod play;
 mod run;
 #[cfg(test)]
 mod sample;
-#[cfg(test)]
-mod step;
 #[cfg(test)]
 mod test_namenode;
 #[cfg(test)]

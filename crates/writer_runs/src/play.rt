@@ -1,8 +1,8 @@
-//! A list of steps played, one after another.
-use crate::agree::{Place, agree};
+//! A list of actions played, one after another.
+use crate::action::Action;
+use crate::agree::{ActionNumber, agree};
 use crate::nodes::Nodes;
 use crate::run::Run;
-use crate::step::Step;
 use crate::test_namenode::HasEntry;
 use chain::link::Link;
 use runs::command::{Command, Outcome};
@@ -11,72 +11,72 @@ use std::test::Fail;
 use writer::heed::Heeded;
 
 impl<C: Nodes> Run<C> {
-    /// Plays the steps of that run. Where something differs, the test ends with the place of the step and with both values.
+    /// Plays the actions of that run. Where something differs, the test ends with the action's number and both values.
     pub fn play<N: HasEntry>(
         &mut self,
         rt: &impl Abort,
         namenode: &mut N,
         case: usize,
-        steps: &[Step],
+        actions: &[Action],
     ) -> Result<(), Fail> {
-        for (i, step) in steps.iter().enumerate() {
-            self.step(rt, namenode, Place { case, step: i }, *step)?;
+        for (i, action) in actions.iter().enumerate() {
+            self.act(rt, namenode, ActionNumber { case, action: i }, *action)?;
         }
         Ok(())
     }
 
-    fn step<N: HasEntry>(
+    fn act<N: HasEntry>(
         &mut self,
         rt: &impl Abort,
         namenode: &mut N,
-        place: Place,
-        step: Step,
+        number: ActionNumber,
+        action: Action,
     ) -> Result<(), Fail> {
-        match step {
-            Step::LosePut(frames) => self.link.lose_put_after(frames),
-            Step::OnSetUp(instead) => self.link.on_set_up(instead),
-            Step::OnNext(instead) => self.link.on_next(instead),
-            Step::OnTransfer(instead) => self.link.on_transfer(instead),
-            Step::Unheard(len) => {
+        match action {
+            Action::LosePut(frames) => self.link.lose_put_after(frames),
+            Action::OnSetUp(instead) => self.link.on_set_up(instead),
+            Action::OnNext(instead) => self.link.on_next(instead),
+            Action::OnTransfer(instead) => self.link.on_transfer(instead),
+            Action::Unheard(len) => {
                 let came = self.link.next(&mut [0; 64]);
-                agree(rt, place, &came, &Ok(Some(len)));
+                agree(rt, number, &came, &Ok(Some(len)));
             }
-            Step::Mark => self.mark()?,
-            Step::Lend(store, frame, answer) => self.lend(store, frame, answer)?,
-            Step::Own => agree(rt, place, &self.take_back(), &true),
-            Step::Look(look) => self.look(rt, namenode, place, look),
-            call => self.make(rt, namenode, place, call)?,
+            Action::Mark => self.mark()?,
+            Action::Lend(store, frame, answer) => self.lend(store, frame, answer)?,
+            Action::Own => agree(rt, number, &self.take_back(), &true),
+            Action::Look(look) => self.look(rt, namenode, number, look),
+            call => self.make(rt, namenode, number, call)?,
         }
         Ok(())
     }
 
-    // Makes the calls of a step, which have to come to what it says.
+    // Makes the calls of an action, which have to come to what it says.
     fn make<N: HasEntry>(
         &mut self,
         rt: &impl Abort,
         namenode: &mut N,
-        place: Place,
-        step: Step,
+        number: ActionNumber,
+        action: Action,
     ) -> Result<(), Fail> {
-        match step {
-            Step::HeedAll(heeded) => {
+        match action {
+            Action::HeedAll(heeded) => {
                 let heard = self.heed_all(namenode);
-                agree(rt, place, &heard, &Outcome::Heard(Ok(heeded)));
+                agree(rt, number, &heard, &Outcome::Heard(Ok(heeded)));
             }
-            Step::Breaks => {
+            Action::Breaks => {
                 let heard = self.call(namenode, Command::Heed);
                 let is_broken = matches!(heard, Outcome::Heard(Ok(Heeded::Broken(_))));
-                agree(rt, place, &is_broken, &true);
+                agree(rt, number, &is_broken, &true);
             }
-            Step::Refused(command, number, refusal) => {
+            Action::Refused(command, wanted, refusal) => {
                 let came = self.call(namenode, command).refusal();
-                agree(rt, place, &came, &Some(refusal));
-                agree(rt, place, &u8::from(refusal), &number);
+                agree(rt, number, &came, &Some(refusal));
+                agree(rt, number, &u8::from(refusal), &wanted);
             }
-            Step::Numbers(numbers) => agree(rt, place, &self.numbers(namenode), &numbers),
+            Action::Numbers(numbers) => agree(rt, number, &self.numbers(namenode), &numbers),
             call => {
-                let (command, wanted) = call.call().ok_or("a step that is no call")?;
-                agree(rt, place, &self.call(namenode, command), &wanted);
+                let (command, wanted) = call.call().ok_or("an action that is no call")?;
+                agree(rt, number, &self.call(namenode, command), &wanted);
             }
         }
         Ok(())

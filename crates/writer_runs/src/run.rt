@@ -1,5 +1,5 @@
 //! A writer with the link and the buffers that its calls are lent.
-use crate::buffers::Buffers;
+use crate::buffers::{are_same, copy_of, with_lengths};
 use crate::link::TestLink;
 use chain::link::Link;
 use namenode::protocol::NamenodeProtocol;
@@ -8,6 +8,7 @@ use runs::command::{Command, Outcome};
 use std::alloc::{AllocError, Global};
 use std::mem;
 use writer::admit::Lengths;
+use writer::buffers::Buffers;
 use writer::heed::Heeded;
 use writer::opening::Opening;
 use writer::refusal::Refusal;
@@ -61,8 +62,8 @@ impl<C: Link + Drop> Run<C> {
     ) -> Result<(Run<C>, Result<(), Refusal>), AllocError> {
         let mut link = link;
         let mut buffers = buffers;
-        let marked = buffers.copy()?;
-        let own = buffers.copy()?;
+        let marked = copy_of(&buffers)?;
+        let own = copy_of(&buffers)?;
         let opened = Writer::open(
             heap,
             opening,
@@ -112,7 +113,7 @@ impl<C: Link> Run<C> {
     /// From here on frames are noted anew, and the buffers are to stay.
     pub fn mark(&mut self) -> Result<(), AllocError> {
         self.link.puts.clear();
-        self.marked = self.buffers.copy()?;
+        self.marked = copy_of(&self.buffers)?;
         Ok(())
     }
 
@@ -124,7 +125,7 @@ impl<C: Link> Run<C> {
             answer,
             request: self.buffers.request.len(),
         };
-        let lent = self.buffers.with_lengths(lengths)?;
+        let lent = with_lengths(&self.buffers, lengths)?;
         self.own = mem::replace(&mut self.buffers, lent);
         self.mark()
     }
@@ -132,7 +133,7 @@ impl<C: Link> Run<C> {
     /// The run's own buffers take the place of the lent ones. Whether nothing was put, and the lent ones are as they were lent.
     pub fn take_back(&mut self) -> bool {
         mem::swap(&mut self.buffers, &mut self.own);
-        self.link.puts.is_empty() && self.own.same_as(&self.marked)
+        self.link.puts.is_empty() && are_same(&self.own, &self.marked)
     }
 
     /// The closing record, or why there is none, and the chain.

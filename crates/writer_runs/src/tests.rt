@@ -10,4 +10,5 @@ mod replacements;
 mod slots;
 mod states;
 mod stores;
+mod texts;
 mod whole;

@@ -1,11 +1,11 @@
 //! A block that has bytes already: its first packet ends the chunk that was begun, and the offsets go on from there.
+use crate::action::{Action, Look};
 use crate::buffers::LEAST;
 use crate::case::{CASE, Case, perform_all};
 use crate::end::End;
 use crate::field::Field;
 use crate::link::{DATA, Instead, LAST, Put};
 use crate::sample::LINK_LOST;
-use crate::step::{Look, Step};
 use std::test::Fail;
 use writer::admit::Lengths;
 use writer::heed::Heeded;
@@ -15,11 +15,11 @@ const FIRST_PACKETS: &[Case] = &[
     Case {
         fields: &[Field::InitialLen(10)],
         kept: b"0123456789",
-        steps: &[
-            Step::Look(Look::Stage(0, 10, 10)),
-            Step::Write(b"abcdefg", 7),
-            Step::Finish,
-            Step::Look(Look::Puts(&[
+        actions: &[
+            Action::Look(Look::Stage(0, 10, 10)),
+            Action::Write(b"abcdefg", 7),
+            Action::Finish,
+            Action::Look(Look::Puts(&[
                 Put {
                     offset: 10,
                     seqno: 0,
@@ -44,7 +44,7 @@ const FIRST_PACKETS: &[Case] = &[
                     ..LAST
                 },
             ])),
-            Step::HeedAll(Heeded::Complete(3)),
+            Action::HeedAll(Heeded::Complete(3)),
         ],
         end: End::Record(b"0123456789abcdefg", 1001),
         ..CASE
@@ -52,11 +52,11 @@ const FIRST_PACKETS: &[Case] = &[
     Case {
         fields: &[Field::InitialLen(8)],
         kept: b"01234567",
-        steps: &[
-            Step::Look(Look::Stage(0, 8, 8)),
-            Step::Write(b"abcdefg", 7),
-            Step::Finish,
-            Step::Look(Look::Puts(&[
+        actions: &[
+            Action::Look(Look::Stage(0, 8, 8)),
+            Action::Write(b"abcdefg", 7),
+            Action::Finish,
+            Action::Look(Look::Puts(&[
                 Put {
                     offset: 8,
                     seqno: 0,
@@ -75,7 +75,7 @@ const FIRST_PACKETS: &[Case] = &[
                     ..LAST
                 },
             ])),
-            Step::HeedAll(Heeded::Complete(2)),
+            Action::HeedAll(Heeded::Complete(2)),
         ],
         end: End::Record(b"01234567abcdefg", 1001),
         ..CASE
@@ -99,14 +99,14 @@ fn two_chunks(rt: HostRuntime) -> Result<(), Fail> {
             frame: 49,
             ..LEAST
         },
-        steps: &[
-            Step::Write(b"abcdefghijklm", 13),
-            Step::Look(Look::Pending(2)),
-            Step::Look(Look::Store(b"abc\x77\x77\x77\x77\x77defghijklm")),
-            Step::Heed(Heeded::Confirmed(0)),
-            Step::Look(Look::Kept(b"01234abc")),
-            Step::Finish,
-            Step::HeedAll(Heeded::Complete(3)),
+        actions: &[
+            Action::Write(b"abcdefghijklm", 13),
+            Action::Look(Look::Pending(2)),
+            Action::Look(Look::Store(b"abc\x77\x77\x77\x77\x77defghijklm")),
+            Action::Heed(Heeded::Confirmed(0)),
+            Action::Look(Look::Kept(b"01234abc")),
+            Action::Finish,
+            Action::HeedAll(Heeded::Complete(3)),
         ],
         end: End::Record(b"01234abcdefghijklm", 1001),
         ..CASE
@@ -120,14 +120,14 @@ fn recovery(rt: HostRuntime) -> Result<(), Fail> {
     const RECOVERY: Case = Case {
         fields: &[Field::InitialLen(10)],
         kept: b"0123456789",
-        steps: &[
-            Step::Write(b"abcdefg", 7),
-            Step::Mark,
-            Step::OnNext(Instead::Lost),
-            Step::Heed(LINK_LOST),
-            Step::Recover(200, 1002, 2),
-            Step::Look(Look::Stage(3, 10, 17)),
-            Step::Look(Look::Puts(&[
+        actions: &[
+            Action::Write(b"abcdefg", 7),
+            Action::Mark,
+            Action::OnNext(Instead::Lost),
+            Action::Heed(LINK_LOST),
+            Action::Recover(200, 1002, 2),
+            Action::Look(Look::Stage(3, 10, 17)),
+            Action::Look(Look::Puts(&[
                 Put {
                     offset: 10,
                     seqno: 0,
@@ -141,8 +141,8 @@ fn recovery(rt: HostRuntime) -> Result<(), Fail> {
                     ..DATA
                 },
             ])),
-            Step::Finish,
-            Step::HeedAll(Heeded::Complete(3)),
+            Action::Finish,
+            Action::HeedAll(Heeded::Complete(3)),
         ],
         end: End::Complete(b"0123456789abcdefg", b"b"),
         ..CASE

@@ -1,15 +1,17 @@
 //! When a heartbeat is put: thirty seconds after the last opening, recovery or heartbeat, by a clock that may go back.
+use crate::action::{Action, Look};
 use crate::case::{CASE, Case, perform_all};
 use crate::end::End;
 use crate::link::{DATA, Instead, Put};
 use crate::sample::LINK_LOST;
-use crate::step::{Look, Step};
 use packet::header::HEART_BEAT_SEQNO;
 use runs::command::Command;
 use std::test::Fail;
 use writer::beat::Beat;
+use writer::cause::Cause;
 use writer::heed::Heeded;
 use writer::refusal::Refusal;
+use writer::state::kind::State;
 
 const HEART_BEAT: Put = Put {
     seqno: HEART_BEAT_SEQNO,
@@ -20,24 +22,24 @@ const HEART_BEAT: Put = Put {
 #[test]
 fn times(rt: HostRuntime) -> Result<(), Fail> {
     const TIMES: Case = Case {
-        steps: &[
-            Step::Mark,
-            Step::Beat(100, Beat::Idle),
-            Step::Beat(129, Beat::Idle),
-            Step::Beat(99, Beat::Idle),
-            Step::Beat(0, Beat::Idle),
-            Step::Look(Look::Puts(&[])),
-            Step::Look(Look::Same),
-            Step::Beat(130, Beat::Put),
-            Step::Beat(130, Beat::Idle),
-            Step::Beat(100, Beat::Idle),
-            Step::Beat(159, Beat::Idle),
-            Step::Beat(160, Beat::Put),
-            Step::Beat(u64::MAX, Beat::Put),
-            Step::Beat(u64::MAX, Beat::Idle),
-            Step::Look(Look::Puts(&[HEART_BEAT; 3])),
-            Step::Look(Look::SameStore),
-            Step::Look(Look::Pending(0)),
+        actions: &[
+            Action::Mark,
+            Action::Beat(100, Beat::Idle),
+            Action::Beat(129, Beat::Idle),
+            Action::Beat(99, Beat::Idle),
+            Action::Beat(0, Beat::Idle),
+            Action::Look(Look::Puts(&[])),
+            Action::Look(Look::Same),
+            Action::Beat(130, Beat::Put),
+            Action::Beat(130, Beat::Idle),
+            Action::Beat(100, Beat::Idle),
+            Action::Beat(159, Beat::Idle),
+            Action::Beat(160, Beat::Put),
+            Action::Beat(u64::MAX, Beat::Put),
+            Action::Beat(u64::MAX, Beat::Idle),
+            Action::Look(Look::Puts(&[HEART_BEAT; 3])),
+            Action::Look(Look::SameStore),
+            Action::Look(Look::Pending(0)),
         ],
         ..CASE
     };
@@ -48,16 +50,16 @@ fn times(rt: HostRuntime) -> Result<(), Fail> {
 #[test]
 fn packets(rt: HostRuntime) -> Result<(), Fail> {
     const PACKETS: Case = Case {
-        steps: &[
-            Step::Write(b"abcdef", 6),
-            Step::Beat(129, Beat::Idle),
-            Step::Beat(131, Beat::Put),
-            Step::OnNext(Instead::Octets(b"\x08\x01\x10\x00\x10\x00")),
-            Step::Heed(Heeded::HeartBeat),
-            Step::Heed(Heeded::Confirmed(0)),
-            Step::Finish,
-            Step::Refused(Command::Beat(1000), 23, Refusal::Finished),
-            Step::HeedAll(Heeded::Complete(2)),
+        actions: &[
+            Action::Write(b"abcdef", 6),
+            Action::Beat(129, Beat::Idle),
+            Action::Beat(131, Beat::Put),
+            Action::OnNext(Instead::Octets(b"\x08\x01\x10\x00\x10\x00")),
+            Action::Heed(Heeded::HeartBeat),
+            Action::Heed(Heeded::Confirmed(0)),
+            Action::Finish,
+            Action::Refused(Command::Beat(1000), 23, Refusal::Finished),
+            Action::HeedAll(Heeded::Complete(2)),
         ],
         end: End::Record(b"abcdef", 1001),
         ..CASE
@@ -69,15 +71,15 @@ fn packets(rt: HostRuntime) -> Result<(), Fail> {
 macro_rules! recovered_at {
     ($time:literal) => {
         Case {
-            steps: &[
-                Step::OnNext(Instead::Lost),
-                Step::Heed(LINK_LOST),
-                Step::Recover($time, 1002, 0),
-                Step::Beat($time - 1, Beat::Idle),
-                Step::Beat($time + 29, Beat::Idle),
-                Step::Beat($time + 30, Beat::Put),
-                Step::Beat($time + 59, Beat::Idle),
-                Step::Beat($time + 60, Beat::Put),
+            actions: &[
+                Action::OnNext(Instead::Lost),
+                Action::Heed(LINK_LOST),
+                Action::Recover($time, 1002, 0),
+                Action::Beat($time - 1, Beat::Idle),
+                Action::Beat($time + 29, Beat::Idle),
+                Action::Beat($time + 30, Beat::Put),
+                Action::Beat($time + 59, Beat::Idle),
+                Action::Beat($time + 60, Beat::Put),
             ],
             ..CASE
         }
@@ -95,18 +97,22 @@ fn recoveries(rt: HostRuntime) -> Result<(), Fail> {
 #[test]
 fn lost(rt: HostRuntime) -> Result<(), Fail> {
     const LOST: Case = Case {
-        steps: &[
-            Step::LosePut(0),
-            Step::Beat(129, Beat::Idle),
-            Step::Beat(130, Beat::Lost),
-            Step::Refused(Command::Beat(160), 22, Refusal::Broken),
-            Step::Recover(170, 1002, 0),
-            Step::Look(Look::On(b"b")),
-            Step::Beat(199, Beat::Idle),
-            Step::Beat(200, Beat::Put),
-            Step::Write(b"abcd", 4),
-            Step::Finish,
-            Step::HeedAll(Heeded::Complete(1)),
+        actions: &[
+            Action::LosePut(0),
+            Action::Beat(129, Beat::Idle),
+            Action::Beat(130, Beat::Lost),
+            Action::Look(Look::State(State::Broken {
+                cause: Cause::Put(HEART_BEAT_SEQNO),
+                finished: false,
+            })),
+            Action::Refused(Command::Beat(160), 22, Refusal::Broken),
+            Action::Recover(170, 1002, 0),
+            Action::Look(Look::On(b"b")),
+            Action::Beat(199, Beat::Idle),
+            Action::Beat(200, Beat::Put),
+            Action::Write(b"abcd", 4),
+            Action::Finish,
+            Action::HeedAll(Heeded::Complete(1)),
         ],
         end: End::Record(b"abcd", 1002),
         ..CASE

@@ -1,10 +1,10 @@
 //! The refusals that close a writer: answers with a wrong number, and recoveries that come to nothing. The store stays, and so do the
 //! bytes that the chain keeps.
+use crate::action::{Action, Look};
 use crate::case::{CASE, Case, Namenodes, perform_all};
 use crate::end::End;
 use crate::link::Instead;
 use crate::sample::{B, DS_1, LINK_LOST, TOKEN};
-use crate::step::{Look, Step};
 use crate::test_namenode::TestNamenode;
 use namenode::protocol::Offered;
 use pipeline::reply::ReplyError;
@@ -18,14 +18,14 @@ macro_rules! answered {
     ($bytes:literal, $len:literal, $answer:literal, $why:expr, $number:literal, $held:literal) => {
         Case {
             nodes: 1,
-            steps: &[
-                Step::Write($bytes, $len),
-                Step::Mark,
-                Step::OnNext(Instead::Octets($answer)),
-                Step::Refused(Command::Heed, $number, $why),
-                Step::Look(Look::Answer($answer)),
-                Step::Look(Look::SameStore),
-                Step::Refused(Command::Heed, 21, Refusal::Closed),
+            actions: &[
+                Action::Write($bytes, $len),
+                Action::Mark,
+                Action::OnNext(Instead::Octets($answer)),
+                Action::Refused(Command::Heed, $number, $why),
+                Action::Look(Look::Answer($answer)),
+                Action::Look(Look::SameStore),
+                Action::Refused(Command::Heed, 21, Refusal::Closed),
             ],
             end: End::Incomplete($held),
             ..CASE
@@ -66,18 +66,18 @@ macro_rules! unasked {
         Case {
             nodes: $nodes,
             namenode: $namenode,
-            steps: &[
-                Step::Write(b"abcdefghij", 10),
-                Step::Heed(Heeded::Confirmed(0)),
-                Step::OnNext($answer),
-                Step::Breaks,
-                Step::Mark,
-                Step::Refused(Command::Recover(200), $number, $why),
-                Step::Refused(Command::Recover(200), 21, Refusal::Closed),
-                Step::Look(Look::Same),
-                Step::Look(Look::Kept(b"abcd")),
-                Step::Look(Look::Asked(b"a")),
-                Step::Look(Look::On(b"")),
+            actions: &[
+                Action::Write(b"abcdefghij", 10),
+                Action::Heed(Heeded::Confirmed(0)),
+                Action::OnNext($answer),
+                Action::Breaks,
+                Action::Mark,
+                Action::Refused(Command::Recover(200), $number, $why),
+                Action::Refused(Command::Recover(200), 21, Refusal::Closed),
+                Action::Look(Look::Same),
+                Action::Look(Look::Kept(b"abcd")),
+                Action::Look(Look::Asked(b"a")),
+                Action::Look(Look::On(b"")),
             ],
             ..CASE
         }
@@ -137,21 +137,21 @@ fn stamps(rt: HostRuntime) -> Result<(), Fail> {
 macro_rules! untold {
     ($set_up:expr, $why:expr) => {
         Case {
-            steps: &[
-                Step::Write(b"abcdefghij", 10),
-                Step::Heed(Heeded::Confirmed(0)),
-                Step::OnNext(Instead::Lost),
-                Step::Heed(LINK_LOST),
-                Step::Mark,
-                Step::OnSetUp($set_up),
-                Step::Refused(Command::Recover(200), 15, Refusal::Recovery($why)),
-                Step::Refused(Command::Recover(200), 21, Refusal::Closed),
-                Step::Look(Look::SameStore),
-                Step::Look(Look::Kept(b"abcd")),
-                Step::Look(Look::Request(&[0, 28, 80])),
-                Step::Look(Look::Asked(b"ab")),
-                Step::Look(Look::PutCount(0)),
-                Step::Look(Look::On(b"")),
+            actions: &[
+                Action::Write(b"abcdefghij", 10),
+                Action::Heed(Heeded::Confirmed(0)),
+                Action::OnNext(Instead::Lost),
+                Action::Heed(LINK_LOST),
+                Action::Mark,
+                Action::OnSetUp($set_up),
+                Action::Refused(Command::Recover(200), 15, Refusal::Recovery($why)),
+                Action::Refused(Command::Recover(200), 21, Refusal::Closed),
+                Action::Look(Look::SameStore),
+                Action::Look(Look::Kept(b"abcd")),
+                Action::Look(Look::Request(&[0, 28, 80])),
+                Action::Look(Look::Asked(b"ab")),
+                Action::Look(Look::PutCount(0)),
+                Action::Look(Look::On(b"")),
             ],
             ..CASE
         }
@@ -182,17 +182,17 @@ fn update(rt: HostRuntime) -> Result<(), Fail> {
             },
             token: TOKEN,
         }),
-        steps: &[
-            Step::Write(b"abcdefghij", 10),
-            Step::Heed(Heeded::Confirmed(0)),
-            Step::OnNext(Instead::Lost),
-            Step::Heed(LINK_LOST),
-            Step::Mark,
-            Step::Refused(Command::Recover(200), 16, Refusal::Update),
-            Step::Refused(Command::Recover(200), 21, Refusal::Closed),
-            Step::Look(Look::SameStore),
-            Step::Look(Look::Kept(b"abcd")),
-            Step::Look(Look::PutCount(1)),
+        actions: &[
+            Action::Write(b"abcdefghij", 10),
+            Action::Heed(Heeded::Confirmed(0)),
+            Action::OnNext(Instead::Lost),
+            Action::Heed(LINK_LOST),
+            Action::Mark,
+            Action::Refused(Command::Recover(200), 16, Refusal::Update),
+            Action::Refused(Command::Recover(200), 21, Refusal::Closed),
+            Action::Look(Look::SameStore),
+            Action::Look(Look::Kept(b"abcd")),
+            Action::Look(Look::PutCount(1)),
         ],
         end: End::Incomplete(1),
         ..CASE

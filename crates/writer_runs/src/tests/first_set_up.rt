@@ -1,7 +1,7 @@
 //! What an opening comes to whose set up does not come back good.
+use crate::action::{Action, Look};
 use crate::case::{CASE, Case, perform_all};
 use crate::link::Instead;
-use crate::step::{Look, Step};
 use pipeline::reply::ReplyError;
 use runs::command::Command;
 use std::test::Fail;
@@ -14,14 +14,14 @@ macro_rules! refused {
             set_up: Some($instead),
             opened: 8,
             why: Some(Refusal::SetUp($why)),
-            steps: &[
-                Step::Look(Look::SameStore),
-                Step::Look(Look::SameFrame),
-                Step::Look(Look::Answer($front)),
-                Step::Look(Look::Request(&[0, 28, 80])),
-                Step::Look(Look::Asked(b"a")),
-                Step::Refused(Command::Write(b"abcd"), 21, Refusal::Closed),
-                Step::Look(Look::Puts(&[])),
+            actions: &[
+                Action::Look(Look::SameStore),
+                Action::Look(Look::SameFrame),
+                Action::Look(Look::Answer($front)),
+                Action::Look(Look::Request(&[0, 28, 80])),
+                Action::Look(Look::Asked(b"a")),
+                Action::Refused(Command::Write(b"abcd"), 21, Refusal::Closed),
+                Action::Look(Look::Puts(&[])),
             ],
             ..CASE
         }

@@ -1,31 +1,36 @@
 //! Frames and answers that are lost, or that are not what they should be, and the block's end after the recovery.
+use crate::action::{Action, Look};
 use crate::buffers::SEVEN_SLOTS;
 use crate::case::{CASE, Case, perform_all};
 use crate::end::End;
 use crate::link::Instead;
 use crate::sample::{LINK_LOST, SECOND_FAILED, THIRD_FAILED};
-use crate::step::{Look, Step};
 use runs::command::Command;
 use std::test::Fail;
 use wire::field::{DecodeError, Fault};
 use writer::cause::Cause;
 use writer::heed::Heeded;
 use writer::refusal::Refusal;
+use writer::state::kind::State;
 
 // How many frames are taken before the one that is lost, how many packets are held then, how many bytes are taken, and which are left.
 macro_rules! lost_in_a_write {
     ($before:literal, $held:literal, $taken:literal, $rest:literal, $left:literal) => {
         Case {
             lengths: SEVEN_SLOTS,
-            steps: &[
-                Step::LosePut($before),
-                Step::WriteLost(b"abcdefghijklmn", $taken),
-                Step::Look(Look::Pending($before)),
-                Step::Refused(Command::Write($rest), 22, Refusal::Broken),
-                Step::Recover(200, 1002, $held),
-                Step::Write($rest, $left),
-                Step::Finish,
-                Step::HeedAll(Heeded::Complete(4)),
+            actions: &[
+                Action::LosePut($before),
+                Action::WriteLost(b"abcdefghijklmn", $taken),
+                Action::Look(Look::Pending($before)),
+                Action::Look(Look::State(State::Broken {
+                    cause: Cause::Put($before),
+                    finished: false,
+                })),
+                Action::Refused(Command::Write($rest), 22, Refusal::Broken),
+                Action::Recover(200, 1002, $held),
+                Action::Write($rest, $left),
+                Action::Finish,
+                Action::HeedAll(Heeded::Complete(4)),
             ],
             end: End::Complete(b"abcdefghijklmn", b"b"),
             ..CASE
@@ -50,17 +55,26 @@ macro_rules! lost_in_a_finish {
         Case {
             nodes: 3,
             lengths: SEVEN_SLOTS,
-            steps: &[
-                Step::Write(b"ab", 2),
-                Step::LosePut($before),
-                Step::FinishLost,
-                Step::Look(Look::Pending($before)),
-                Step::Refused(Command::Finish, 22, Refusal::Broken),
-                Step::LosePut(0),
-                Step::RecoverLost(200, 1002, 0),
-                Step::Recover(200, 1003, 2),
-                Step::Refused(Command::Finish, 23, Refusal::Finished),
-                Step::HeedAll(Heeded::Complete(1)),
+            actions: &[
+                Action::Write(b"ab", 2),
+                Action::LosePut($before),
+                Action::FinishLost,
+                Action::Look(Look::Pending($before)),
+                Action::Look(Look::State(State::Broken {
+                    cause: Cause::Put($before),
+                    finished: true,
+                })),
+                Action::Refused(Command::Finish, 22, Refusal::Broken),
+                Action::LosePut(0),
+                Action::RecoverLost(200, 1002, 0),
+                Action::Look(Look::State(State::Broken {
+                    cause: Cause::Put(0),
+                    finished: true,
+                })),
+                Action::Recover(200, 1003, 2),
+                Action::Look(Look::State(State::Finishing)),
+                Action::Refused(Command::Finish, 23, Refusal::Finished),
+                Action::HeedAll(Heeded::Complete(1)),
             ],
             end: End::Complete(b"ab", b"c"),
             ..CASE
@@ -82,19 +96,24 @@ macro_rules! lost_in_a_replay {
         Case {
             nodes: 3,
             lengths: SEVEN_SLOTS,
-            steps: &[
-                Step::Write(b"abcdefghijklmn", 14),
-                Step::OnNext(Instead::Lost),
-                Step::Heed(LINK_LOST),
-                Step::LosePut($before),
-                Step::RecoverLost(200, 1002, $before),
-                Step::Look(Look::Pending($before)),
-                Step::Look(Look::Entry(1002, 14)),
-                Step::Look(Look::On(b"bc")),
-                Step::Refused(Command::Heed, 22, Refusal::Broken),
-                Step::Recover(200, 1003, 3),
-                Step::Finish,
-                Step::HeedAll(Heeded::Complete(4)),
+            actions: &[
+                Action::Write(b"abcdefghijklmn", 14),
+                Action::OnNext(Instead::Lost),
+                Action::Heed(LINK_LOST),
+                Action::LosePut($before),
+                Action::RecoverLost(200, 1002, $before),
+                Action::Look(Look::State(State::Broken {
+                    cause: Cause::Put($before),
+                    finished: false,
+                })),
+                Action::Look(Look::Pending($before)),
+                Action::Look(Look::Entry(1002, 14)),
+                Action::Look(Look::On(b"bc")),
+                Action::Refused(Command::Heed, 22, Refusal::Broken),
+                Action::Recover(200, 1003, 3),
+                Action::Look(Look::State(State::Streaming)),
+                Action::Finish,
+                Action::HeedAll(Heeded::Complete(4)),
             ],
             end: End::Complete(b"abcdefghijklmn", b"c"),
             ..CASE
@@ -126,16 +145,16 @@ macro_rules! lost_at_a_heed {
         Case {
             nodes: 3,
             lengths: SEVEN_SLOTS,
-            steps: &[
-                Step::Write(b"abcdef", 6),
-                Step::Mark,
-                Step::OnNext($instead),
-                Step::Heed($heeded),
-                Step::Look($look),
-                Step::Recover(200, 1002, 1),
-                Step::Write(b"gh", 2),
-                Step::Finish,
-                Step::HeedAll(Heeded::Complete(2)),
+            actions: &[
+                Action::Write(b"abcdef", 6),
+                Action::Mark,
+                Action::OnNext($instead),
+                Action::Heed($heeded),
+                Action::Look($look),
+                Action::Recover(200, 1002, 1),
+                Action::Write(b"gh", 2),
+                Action::Finish,
+                Action::HeedAll(Heeded::Complete(2)),
             ],
             end: End::Complete(b"abcdefgh", $ips),
             ..CASE

@@ -1,19 +1,21 @@
 //! What an opening is refused with, one thing wrong at a time, and which of two comes first.
+use crate::action::{Action, Look};
 use crate::buffers::LEAST;
 use crate::case::{CASE, Case, perform_all};
 use crate::field::Field;
 use crate::sample::{A, DS_1};
-use crate::step::{Look, Step};
 use runs::command::Command;
 use std::test::Fail;
 use writer::admit::Lengths;
 use writer::refusal::Refusal;
+use writer::state::kind::State;
 
 // Where an opening is refused, the link was asked for nothing, no buffer was written, and the writer is closed.
-const CLOSED: &[Step] = &[
-    Step::Look(Look::Asked(b"")),
-    Step::Look(Look::Same),
-    Step::Refused(Command::Heed, 21, Refusal::Closed),
+const CLOSED: &[Action] = &[
+    Action::Look(Look::Asked(b"")),
+    Action::Look(Look::Same),
+    Action::Look(Look::State(State::Closed)),
+    Action::Refused(Command::Heed, 21, Refusal::Closed),
 ];
 
 // An opening on one datanode with these fields is refused with that number.
@@ -23,7 +25,7 @@ macro_rules! refused {
             nodes: 1,
             fields: &[$($field),*],
             opened: $number,
-            steps: CLOSED,
+            actions: CLOSED,
             ..CASE
         }
     };
@@ -78,7 +80,7 @@ fn counts(rt: HostRuntime) -> Result<(), Fail> {
     const NONE: Case = Case {
         nodes: 0,
         opened: 4,
-        steps: CLOSED,
+        actions: CLOSED,
         ..CASE
     };
     const CASES: &[Case] = &[

@@ -1,10 +1,10 @@
 //! A pipeline that breaks in each state in which it can, and the block's end after its recovery.
+use crate::action::{Action, Look};
 use crate::buffers::SEVEN_SLOTS;
 use crate::case::{CASE, Case, perform_all};
 use crate::end::End;
 use crate::link::{DATA, Instead, LAST, Put};
 use crate::sample::LINK_LOST;
-use crate::step::{Look, Step};
 use request::setup::Setup;
 use runs::command::Command;
 use std::test::Fail;
@@ -31,22 +31,22 @@ const ON_THREE: Case = Case {
 };
 
 // Three datanodes break, and a is gone: all that is held is put again, on the other two. So many packets are held then, so many bytes are
-// confirmed, and the block has so many; the steps are those until it breaks and those that end the block, which then has these bytes.
+// confirmed, and the block has so many; the actions are those until it breaks and those that end the block, which then has these bytes.
 macro_rules! recovered {
     ($held:literal, $least:literal, $len:literal, [$($until:expr),*], [$($end:expr),*], $all:literal) => {
         Case {
-            steps: &[
+            actions: &[
                 $($until,)*
-                Step::Mark,
-                Step::Recover(200, 1002, $held),
-                Step::Look(Look::SetUp(Setup {
+                Action::Mark,
+                Action::Recover(200, 1002, $held),
+                Action::Look(Look::SetUp(Setup {
                     min_bytes: $least,
                     max_bytes: $len,
                     ..SETUP
                 })),
-                Step::Look(Look::Asked(b"ab")),
-                Step::Look(Look::PutCount($held)),
-                Step::Look(Look::Entry(1002, $len)),
+                Action::Look(Look::Asked(b"ab")),
+                Action::Look(Look::PutCount($held)),
+                Action::Look(Look::Entry(1002, $len)),
                 $($end),*
             ],
             end: End::Complete($all, b"bc"),
@@ -61,30 +61,30 @@ macro_rules! open {
         recovered!(
             $held, $least, $len,
             [
-                Step::Write($bytes, $len),
-                $(Step::Heed(Heeded::Confirmed($confirmed)),)*
-                Step::OnNext(Instead::Lost),
-                Step::Heed(LINK_LOST)
+                Action::Write($bytes, $len),
+                $(Action::Heed(Heeded::Confirmed($confirmed)),)*
+                Action::OnNext(Instead::Lost),
+                Action::Heed(LINK_LOST)
             ],
             [
-                Step::Write(b"vwxyz", 5),
-                Step::Finish,
-                Step::HeedAll(Heeded::Complete($last))
+                Action::Write(b"vwxyz", 5),
+                Action::Finish,
+                Action::HeedAll(Heeded::Complete($last))
             ],
             $all
         )
     };
 }
 
-// With six bytes written the block's end is put, or lost, in these steps. No more can be written after the recovery.
+// With six bytes written the block's end is put, or lost, in these actions. No more can be written after the recovery.
 macro_rules! ended {
     ($held:literal, $least:literal, $($until:expr),*) => {
         recovered!(
             $held, $least, 6,
-            [Step::Write(b"abcdef", 6), $($until),*],
+            [Action::Write(b"abcdef", 6), $($until),*],
             [
-                Step::Refused(Command::Write(b"vwxyz"), 23, Refusal::Finished),
-                Step::HeedAll(Heeded::Complete(2))
+                Action::Refused(Command::Write(b"vwxyz"), 23, Refusal::Finished),
+                Action::HeedAll(Heeded::Complete(2))
             ],
             b"abcdef"
         )
@@ -106,23 +106,23 @@ fn each_state(rt: HostRuntime) -> Result<(), Fail> {
         ended!(
             3,
             0,
-            Step::Finish,
-            Step::OnNext(Instead::Lost),
-            Step::Heed(LINK_LOST)
+            Action::Finish,
+            Action::OnNext(Instead::Lost),
+            Action::Heed(LINK_LOST)
         ),
         ended!(
             2,
             4,
-            Step::Heed(Heeded::Confirmed(0)),
-            Step::LosePut(0),
-            Step::FinishLost
+            Action::Heed(Heeded::Confirmed(0)),
+            Action::LosePut(0),
+            Action::FinishLost
         ),
         ended!(
             2,
             4,
-            Step::Heed(Heeded::Confirmed(0)),
-            Step::LosePut(1),
-            Step::FinishLost
+            Action::Heed(Heeded::Confirmed(0)),
+            Action::LosePut(1),
+            Action::FinishLost
         ),
     ];
     perform_all(&rt, rt.alloc(), CASES)
@@ -141,20 +141,20 @@ const SECOND: Put = Put {
 #[test]
 fn last_packet_unsent(rt: HostRuntime) -> Result<(), Fail> {
     const UNSENT: Case = Case {
-        steps: &[
-            Step::Write(b"abcdef", 6),
-            Step::LosePut(0),
-            Step::FinishLost,
-            Step::Look(Look::Puts(&[
+        actions: &[
+            Action::Write(b"abcdef", 6),
+            Action::LosePut(0),
+            Action::FinishLost,
+            Action::Look(Look::Puts(&[
                 FIRST,
                 Put {
                     taken: false,
                     ..SECOND
                 },
             ])),
-            Step::Mark,
-            Step::Recover(200, 1002, 3),
-            Step::Look(Look::Puts(&[
+            Action::Mark,
+            Action::Recover(200, 1002, 3),
+            Action::Look(Look::Puts(&[
                 FIRST,
                 SECOND,
                 Put {
@@ -163,7 +163,7 @@ fn last_packet_unsent(rt: HostRuntime) -> Result<(), Fail> {
                     ..LAST
                 },
             ])),
-            Step::HeedAll(Heeded::Complete(2)),
+            Action::HeedAll(Heeded::Complete(2)),
         ],
         end: End::Complete(b"abcdef", b"bc"),
         ..ON_THREE
@@ -175,17 +175,17 @@ fn last_packet_unsent(rt: HostRuntime) -> Result<(), Fail> {
 #[test]
 fn lost_confirmation(rt: HostRuntime) -> Result<(), Fail> {
     const UNHEARD: Case = Case {
-        steps: &[
-            Step::Write(b"abcdefghij", 10),
-            Step::Unheard(8),
-            Step::Look(Look::Kept(b"abcd")),
-            Step::OnNext(Instead::Lost),
-            Step::Heed(LINK_LOST),
-            Step::Recover(200, 1002, 2),
-            Step::Look(Look::Kept(b"")),
-            Step::Look(Look::Pending(2)),
-            Step::Finish,
-            Step::HeedAll(Heeded::Complete(3)),
+        actions: &[
+            Action::Write(b"abcdefghij", 10),
+            Action::Unheard(8),
+            Action::Look(Look::Kept(b"abcd")),
+            Action::OnNext(Instead::Lost),
+            Action::Heed(LINK_LOST),
+            Action::Recover(200, 1002, 2),
+            Action::Look(Look::Kept(b"")),
+            Action::Look(Look::Pending(2)),
+            Action::Finish,
+            Action::HeedAll(Heeded::Complete(3)),
         ],
         end: End::Complete(b"abcdefghij", b"bc"),
         ..ON_THREE
@@ -197,16 +197,16 @@ fn lost_confirmation(rt: HostRuntime) -> Result<(), Fail> {
 #[test]
 fn again(rt: HostRuntime) -> Result<(), Fail> {
     const TWICE: Case = Case {
-        steps: &[
-            Step::Write(b"abcdef", 6),
-            Step::Finish,
-            Step::OnNext(Instead::Lost),
-            Step::Heed(LINK_LOST),
-            Step::Recover(200, 1002, 3),
-            Step::OnNext(Instead::Lost),
-            Step::Heed(LINK_LOST),
-            Step::Recover(200, 1003, 3),
-            Step::HeedAll(Heeded::Complete(2)),
+        actions: &[
+            Action::Write(b"abcdef", 6),
+            Action::Finish,
+            Action::OnNext(Instead::Lost),
+            Action::Heed(LINK_LOST),
+            Action::Recover(200, 1002, 3),
+            Action::OnNext(Instead::Lost),
+            Action::Heed(LINK_LOST),
+            Action::Recover(200, 1003, 3),
+            Action::HeedAll(Heeded::Complete(2)),
         ],
         end: End::Complete(b"abcdef", b"c"),
         ..ON_THREE

@@ -1,10 +1,10 @@
 //! Datanodes that failed, and what comes in their places: none, or one of the namenode's list.
+use crate::action::{Action, Look};
 use crate::case::{CASE, Case, Namenodes, perform_all};
 use crate::end::End;
 use crate::field::Field;
 use crate::link::Instead;
 use crate::sample::{A, D, DS_1, LINK_LOST, SECOND_FAILED, TOKEN};
-use crate::step::{Look, Step};
 use crate::test_namenode::TestNamenode;
 use ack::tally::FailedNodes;
 use namenode::protocol::Offered;
@@ -17,10 +17,10 @@ use writer::heed::Heeded;
 use writer::refusal::Refusal;
 
 // Two packets are held and two bytes more.
-const WRITTEN: Step = Step::Write(b"abcdefghij", 10);
+const WRITTEN: Action = Action::Write(b"abcdefghij", 10);
 
 // Of a, b and c the second one fails.
-const B_FAILS: Step = Step::OnNext(Instead::Octets(b"\x08\x00\x10\x00\x10\x01\x10\x00"));
+const B_FAILS: Action = Action::OnNext(Instead::Octets(b"\x08\x00\x10\x00\x10\x01\x10\x00"));
 
 // A run on a, b and c, with a new datanode for each one that is gone, or none where there is none to have.
 const BEST_EFFORT: Case = Case {
@@ -40,18 +40,18 @@ const STRICT: Case = Case {
 fn three_at_once(rt: HostRuntime) -> Result<(), Fail> {
     const THREE_AT_ONCE: Case = Case {
         nodes: 5,
-        steps: &[
+        actions: &[
             WRITTEN,
-            Step::OnNext(Instead::Octets(b"\x08\x00\x10\x01\x10\x00\x10\x05\x10\x00\x10\x01")),
-            Step::Heed(Heeded::Broken(Cause::Replies(FailedNodes {
+            Action::OnNext(Instead::Octets(b"\x08\x00\x10\x01\x10\x00\x10\x05\x10\x00\x10\x01")),
+            Action::Heed(Heeded::Broken(Cause::Replies(FailedNodes {
                 positions: [true, false, true, false, true, false, false, false],
                 count: 3,
                 highest: 4,
             }))),
-            Step::Recover(200, 1002, 2),
-            Step::Look(Look::Asked(b"ab")),
-            Step::Finish,
-            Step::HeedAll(Heeded::Complete(3)),
+            Action::Recover(200, 1002, 2),
+            Action::Look(Look::Asked(b"ab")),
+            Action::Finish,
+            Action::HeedAll(Heeded::Complete(3)),
         ],
         end: End::Complete(b"abcdefghij", b"bd"),
         ..CASE
@@ -64,16 +64,16 @@ fn three_at_once(rt: HostRuntime) -> Result<(), Fail> {
 fn from_the_pool(rt: HostRuntime) -> Result<(), Fail> {
     const FROM_THE_POOL: Case = Case {
         namenode: Namenodes::Pool(true),
-        steps: &[
+        actions: &[
             WRITTEN,
             B_FAILS,
-            Step::Heed(SECOND_FAILED),
-            Step::Replace(200, (2, 1), 1002, 2),
-            Step::Look(Look::Asked(b"aca")),
-            Step::Look(Look::Entry(1002, 10)),
-            Step::Write(b"kl", 2),
-            Step::Finish,
-            Step::HeedAll(Heeded::Complete(3)),
+            Action::Heed(SECOND_FAILED),
+            Action::Replace(200, (2, 1), 1002, 2),
+            Action::Look(Look::Asked(b"aca")),
+            Action::Look(Look::Entry(1002, 10)),
+            Action::Write(b"kl", 2),
+            Action::Finish,
+            Action::HeedAll(Heeded::Complete(3)),
         ],
         end: End::Complete(b"abcdefghijkl", b"acd"),
         ..STRICT
@@ -87,16 +87,16 @@ fn default_policy(rt: HostRuntime) -> Result<(), Fail> {
     const BY_DEFAULT: Case = Case {
         fields: &[Field::Replace(Policy::Default, false)],
         namenode: Namenodes::Pool(true),
-        steps: &[
+        actions: &[
             WRITTEN,
             B_FAILS,
-            Step::Heed(SECOND_FAILED),
-            Step::Recover(200, 1002, 2),
-            Step::OnNext(Instead::Lost),
-            Step::Heed(LINK_LOST),
-            Step::Replace(200, (1, 0), 1003, 2),
-            Step::Finish,
-            Step::HeedAll(Heeded::Complete(3)),
+            Action::Heed(SECOND_FAILED),
+            Action::Recover(200, 1002, 2),
+            Action::OnNext(Instead::Lost),
+            Action::Heed(LINK_LOST),
+            Action::Replace(200, (1, 0), 1003, 2),
+            Action::Finish,
+            Action::HeedAll(Heeded::Complete(3)),
         ],
         end: End::Complete(b"abcdefghij", b"cb"),
         ..STRICT
@@ -106,13 +106,13 @@ fn default_policy(rt: HostRuntime) -> Result<(), Fail> {
 
 // There is no datanode to have.
 const NO_SPARE: Case = Case {
-    steps: &[
+    actions: &[
         WRITTEN,
         B_FAILS,
-        Step::Heed(SECOND_FAILED),
-        Step::Recover(200, 1002, 2),
-        Step::Finish,
-        Step::HeedAll(Heeded::Complete(3)),
+        Action::Heed(SECOND_FAILED),
+        Action::Recover(200, 1002, 2),
+        Action::Finish,
+        Action::HeedAll(Heeded::Complete(3)),
     ],
     end: End::Complete(b"abcdefghij", b"ac"),
     ..BEST_EFFORT
@@ -121,15 +121,15 @@ const NO_SPARE: Case = Case {
 // There is one, and it gets no copy.
 const COPY_LOST: Case = Case {
     namenode: Namenodes::Pool(true),
-    steps: &[
+    actions: &[
         WRITTEN,
         B_FAILS,
-        Step::Heed(SECOND_FAILED),
-        Step::OnTransfer(Instead::Lost),
-        Step::Recover(200, 1002, 2),
-        Step::Look(Look::Asked(b"aca")),
-        Step::Finish,
-        Step::HeedAll(Heeded::Complete(3)),
+        Action::Heed(SECOND_FAILED),
+        Action::OnTransfer(Instead::Lost),
+        Action::Recover(200, 1002, 2),
+        Action::Look(Look::Asked(b"aca")),
+        Action::Finish,
+        Action::HeedAll(Heeded::Complete(3)),
     ],
     ..NO_SPARE
 };
@@ -145,17 +145,17 @@ macro_rules! fails {
     ($namenode:expr, $before:expr, $why:expr) => {
         Case {
             namenode: $namenode,
-            steps: &[
+            actions: &[
                 WRITTEN,
                 B_FAILS,
-                Step::Heed(SECOND_FAILED),
-                Step::Mark,
+                Action::Heed(SECOND_FAILED),
+                Action::Mark,
                 $before,
-                Step::Refused(Command::Recover(200), 13, Refusal::Replacement($why)),
-                Step::Look(Look::PutCount(0)),
-                Step::Look(Look::SameStore),
-                Step::Look(Look::SameFrame),
-                Step::Refused(Command::Write(b"k"), 21, Refusal::Closed),
+                Action::Refused(Command::Recover(200), 13, Refusal::Replacement($why)),
+                Action::Look(Look::PutCount(0)),
+                Action::Look(Look::SameStore),
+                Action::Look(Look::SameFrame),
+                Action::Refused(Command::Write(b"k"), 21, Refusal::Closed),
             ],
             ..STRICT
         }
@@ -165,7 +165,7 @@ macro_rules! fails {
 // The namenode gives no datanode.
 macro_rules! no_datanode {
     ($namenode:expr, $why:expr) => {
-        fails!($namenode, Step::Mark, $why)
+        fails!($namenode, Action::Mark, $why)
     };
 }
 
@@ -201,7 +201,7 @@ fn no_datanode(rt: HostRuntime) -> Result<(), Fail> {
 // The copy comes to that.
 macro_rules! no_copy {
     ($transfer:expr, $why:expr) => {
-        fails!(Namenodes::Pool(true), Step::OnTransfer($transfer), $why)
+        fails!(Namenodes::Pool(true), Action::OnTransfer($transfer), $why)
     };
 }
 

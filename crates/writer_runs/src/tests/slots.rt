@@ -1,10 +1,10 @@
 //! A write takes bytes as far as slots and block reach.
+use crate::action::{Action, Look};
 use crate::buffers::LEAST;
 use crate::case::{CASE, Case, perform_all};
 use crate::end::End;
 use crate::field::Field;
 use crate::link::{DATA, LAST, Put};
-use crate::step::{Look, Step};
 use std::test::Fail;
 use writer::admit::Lengths;
 use writer::heed::Heeded;
@@ -14,22 +14,22 @@ use writer::heed::Heeded;
 fn full_slots(rt: HostRuntime) -> Result<(), Fail> {
     const FULL_SLOTS: Case = Case {
         lengths: LEAST,
-        steps: &[
-            Step::Write(b"abcdefghijklmnopqrst", 12),
-            Step::Look(Look::PutCount(2)),
-            Step::Mark,
-            Step::Look(Look::Store(b"abcdefghijkl")),
-            Step::Write(b"mnopqrst", 0),
-            Step::Look(Look::Same),
-            Step::Heed(Heeded::Confirmed(0)),
-            Step::Write(b"mnopqrst", 4),
-            Step::Look(Look::PutCount(1)),
-            Step::Look(Look::Store(b"mnopefghijkl")),
-            Step::HeedAll(Heeded::Nothing),
-            Step::Write(b"qrst", 4),
-            Step::HeedAll(Heeded::Nothing),
-            Step::Finish,
-            Step::HeedAll(Heeded::Complete(5)),
+        actions: &[
+            Action::Write(b"abcdefghijklmnopqrst", 12),
+            Action::Look(Look::PutCount(2)),
+            Action::Mark,
+            Action::Look(Look::Store(b"abcdefghijkl")),
+            Action::Write(b"mnopqrst", 0),
+            Action::Look(Look::Same),
+            Action::Heed(Heeded::Confirmed(0)),
+            Action::Write(b"mnopqrst", 4),
+            Action::Look(Look::PutCount(1)),
+            Action::Look(Look::Store(b"mnopefghijkl")),
+            Action::HeedAll(Heeded::Nothing),
+            Action::Write(b"qrst", 4),
+            Action::HeedAll(Heeded::Nothing),
+            Action::Finish,
+            Action::HeedAll(Heeded::Complete(5)),
         ],
         end: End::Record(b"abcdefghijklmnopqrst", 1001),
         ..CASE
@@ -49,13 +49,13 @@ fn most_slots(rt: HostRuntime) -> Result<(), Fail> {
             store: 500,
             ..LEAST
         },
-        steps: &[
-            Step::Write(BYTES, 404),
-            Step::Look(Look::Pending(100)),
-            Step::Write(BYTES, 0),
-            Step::Heed(Heeded::Confirmed(0)),
-            Step::Write(BYTES, 4),
-            Step::Look(Look::Pending(100)),
+        actions: &[
+            Action::Write(BYTES, 404),
+            Action::Look(Look::Pending(100)),
+            Action::Write(BYTES, 0),
+            Action::Heed(Heeded::Confirmed(0)),
+            Action::Write(BYTES, 4),
+            Action::Look(Look::Pending(100)),
         ],
         ..CASE
     };
@@ -66,13 +66,13 @@ fn most_slots(rt: HostRuntime) -> Result<(), Fail> {
 const FULL: &[Case] = &[
     Case {
         fields: &[Field::BlockSize(10)],
-        steps: &[
-            Step::Write(b"abcdefghijkl", 10),
-            Step::Look(Look::PutCount(2)),
-            Step::Write(b"abcdefghijkl", 0),
-            Step::Mark,
-            Step::Finish,
-            Step::Look(Look::Puts(&[
+        actions: &[
+            Action::Write(b"abcdefghijkl", 10),
+            Action::Look(Look::PutCount(2)),
+            Action::Write(b"abcdefghijkl", 0),
+            Action::Mark,
+            Action::Finish,
+            Action::Look(Look::Puts(&[
                 Put {
                     offset: 8,
                     seqno: 2,
@@ -85,25 +85,25 @@ const FULL: &[Case] = &[
                     ..LAST
                 },
             ])),
-            Step::HeedAll(Heeded::Complete(3)),
+            Action::HeedAll(Heeded::Complete(3)),
         ],
         end: End::Record(b"abcdefghij", 1001),
         ..CASE
     },
     Case {
         fields: &[Field::BlockSize(8)],
-        steps: &[
-            Step::Write(b"abcdefghijkl", 8),
-            Step::Look(Look::PutCount(2)),
-            Step::Write(b"abcdefghijkl", 0),
-            Step::Mark,
-            Step::Finish,
-            Step::Look(Look::Puts(&[Put {
+        actions: &[
+            Action::Write(b"abcdefghijkl", 8),
+            Action::Look(Look::PutCount(2)),
+            Action::Write(b"abcdefghijkl", 0),
+            Action::Mark,
+            Action::Finish,
+            Action::Look(Look::Puts(&[Put {
                 offset: 8,
                 seqno: 2,
                 ..LAST
             }])),
-            Step::HeedAll(Heeded::Complete(2)),
+            Action::HeedAll(Heeded::Complete(2)),
         ],
         end: End::Record(b"abcdefgh", 1001),
         ..CASE

@@ -1,52 +1,66 @@
 //! What each call is refused with in each state, and by buffers that do not suffice: the state counts first, then the store, then the others.
+use crate::action::{Action, Look};
 use crate::buffers::LEAST;
 use crate::case::{CASE, Case, perform_all};
 use crate::end::End;
 use crate::link::Instead;
 use crate::sample::LINK_LOST;
-use crate::step::{Look, Step};
 use runs::command::Command;
 use std::test::Fail;
+use writer::cause::Cause;
 use writer::heed::Heeded;
 use writer::refusal::Refusal;
+use writer::state::kind::State;
 
-// In each state: another store and a frame buffer that is too short, and then that frame buffer alone. The link is sent nothing, and all
-// buffers stay.
+// A link was lost, and the block is not finished.
+const BROKEN: State = State::Broken {
+    cause: Cause::Link,
+    finished: false,
+};
+
+// In each state: another store and a frame buffer that is too short, and then that frame buffer alone. The link is sent nothing, all
+// buffers stay, and the writer stays in its state.
 #[test]
 fn each_state(rt: HostRuntime) -> Result<(), Fail> {
     const EACH_STATE: Case = Case {
-        steps: &[
-            Step::Write(b"abcdefghij", 10),
-            Step::Lend(21, 40, 4096),
-            Step::Numbers([6, 6, 6, 25, 6]),
-            Step::Own,
-            Step::Lend(20, 40, 4096),
-            Step::Numbers([7, 7, 7, 25, 7]),
-            Step::Own,
-            Step::Refused(Command::Recover(0), 25, Refusal::Whole),
-            Step::OnNext(Instead::Lost),
-            Step::Heed(LINK_LOST),
-            Step::Lend(21, 40, 4096),
-            Step::Numbers([22, 22, 22, 6, 22]),
-            Step::Own,
-            Step::Lend(20, 40, 4096),
-            Step::Numbers([22, 22, 22, 7, 22]),
-            Step::Own,
-            Step::Recover(0, 1002, 2),
-            Step::Finish,
-            Step::Lend(21, 40, 4096),
-            Step::Numbers([23, 6, 23, 25, 23]),
-            Step::Own,
-            Step::Lend(20, 40, 4096),
-            Step::Numbers([23, 7, 23, 25, 23]),
-            Step::Own,
-            Step::HeedAll(Heeded::Complete(3)),
-            Step::Lend(21, 40, 4096),
-            Step::Numbers([24; 5]),
-            Step::Own,
-            Step::Lend(20, 40, 4096),
-            Step::Numbers([24; 5]),
-            Step::Own,
+        actions: &[
+            Action::Look(Look::State(State::Streaming)),
+            Action::Write(b"abcdefghij", 10),
+            Action::Lend(21, 40, 4096),
+            Action::Numbers([6, 6, 6, 25, 6]),
+            Action::Look(Look::State(State::Streaming)),
+            Action::Own,
+            Action::Lend(20, 40, 4096),
+            Action::Numbers([7, 7, 7, 25, 7]),
+            Action::Own,
+            Action::Refused(Command::Recover(0), 25, Refusal::Whole),
+            Action::OnNext(Instead::Lost),
+            Action::Heed(LINK_LOST),
+            Action::Lend(21, 40, 4096),
+            Action::Numbers([22, 22, 22, 6, 22]),
+            Action::Look(Look::State(BROKEN)),
+            Action::Own,
+            Action::Lend(20, 40, 4096),
+            Action::Numbers([22, 22, 22, 7, 22]),
+            Action::Own,
+            Action::Recover(0, 1002, 2),
+            Action::Look(Look::State(State::Streaming)),
+            Action::Finish,
+            Action::Lend(21, 40, 4096),
+            Action::Numbers([23, 6, 23, 25, 23]),
+            Action::Look(Look::State(State::Finishing)),
+            Action::Own,
+            Action::Lend(20, 40, 4096),
+            Action::Numbers([23, 7, 23, 25, 23]),
+            Action::Own,
+            Action::HeedAll(Heeded::Complete(3)),
+            Action::Lend(21, 40, 4096),
+            Action::Numbers([24; 5]),
+            Action::Look(Look::State(State::Complete)),
+            Action::Own,
+            Action::Lend(20, 40, 4096),
+            Action::Numbers([24; 5]),
+            Action::Own,
         ],
         end: End::Complete(b"abcdefghij", b"b"),
         ..CASE
@@ -57,16 +71,17 @@ fn each_state(rt: HostRuntime) -> Result<(), Fail> {
 #[test]
 fn closed(rt: HostRuntime) -> Result<(), Fail> {
     const CLOSED: Case = Case {
-        steps: &[
-            Step::Write(b"abcd", 4),
-            Step::OnNext(Instead::Octets(b"\x08\x03\x10\x00")),
-            Step::Refused(Command::Heed, 9, Refusal::UnknownSeqno),
-            Step::Lend(21, 40, 4096),
-            Step::Numbers([21; 5]),
-            Step::Own,
-            Step::Lend(20, 40, 4096),
-            Step::Numbers([21; 5]),
-            Step::Own,
+        actions: &[
+            Action::Write(b"abcd", 4),
+            Action::OnNext(Instead::Octets(b"\x08\x03\x10\x00")),
+            Action::Refused(Command::Heed, 9, Refusal::UnknownSeqno),
+            Action::Look(Look::State(State::Closed)),
+            Action::Lend(21, 40, 4096),
+            Action::Numbers([21; 5]),
+            Action::Own,
+            Action::Lend(20, 40, 4096),
+            Action::Numbers([21; 5]),
+            Action::Own,
         ],
         end: End::Incomplete(1),
         ..CASE
@@ -77,22 +92,22 @@ fn closed(rt: HostRuntime) -> Result<(), Fail> {
 // Runs that do not complete the block, and how many packets are held then.
 const INCOMPLETE: &[Case] = &[
     Case {
-        steps: &[Step::Write(b"", 0)],
+        actions: &[Action::Write(b"", 0)],
         end: End::Incomplete(0),
         ..CASE
     },
     Case {
-        steps: &[Step::Write(b"abc", 3)],
+        actions: &[Action::Write(b"abc", 3)],
         end: End::Incomplete(0),
         ..CASE
     },
     Case {
-        steps: &[Step::Write(b"abcdefghij", 10)],
+        actions: &[Action::Write(b"abcdefghij", 10)],
         end: End::Incomplete(2),
         ..CASE
     },
     Case {
-        steps: &[Step::Write(b"abcdefghij", 10), Step::Finish],
+        actions: &[Action::Write(b"abcdefghij", 10), Action::Finish],
         end: End::Incomplete(4),
         ..CASE
     },
@@ -110,20 +125,20 @@ fn incomplete(rt: HostRuntime) -> Result<(), Fail> {
 fn places(rt: HostRuntime) -> Result<(), Fail> {
     const PLACES: Case = Case {
         lengths: LEAST,
-        steps: &[
-            Step::Write(b"abcdefghij", 10),
-            Step::Lend(12, 41, 4095),
-            Step::Refused(Command::Finish, 7, Refusal::Buffer),
-            Step::Own,
-            Step::Mark,
-            Step::Refused(Command::Finish, 26, Refusal::Places),
-            Step::Heed(Heeded::Confirmed(0)),
-            Step::Refused(Command::Finish, 26, Refusal::Places),
-            Step::Look(Look::SameStore),
-            Step::Look(Look::SameFrame),
-            Step::Heed(Heeded::Confirmed(1)),
-            Step::Finish,
-            Step::HeedAll(Heeded::Complete(3)),
+        actions: &[
+            Action::Write(b"abcdefghij", 10),
+            Action::Lend(12, 41, 4095),
+            Action::Refused(Command::Finish, 7, Refusal::Buffer),
+            Action::Own,
+            Action::Mark,
+            Action::Refused(Command::Finish, 26, Refusal::Places),
+            Action::Heed(Heeded::Confirmed(0)),
+            Action::Refused(Command::Finish, 26, Refusal::Places),
+            Action::Look(Look::SameStore),
+            Action::Look(Look::SameFrame),
+            Action::Heed(Heeded::Confirmed(1)),
+            Action::Finish,
+            Action::HeedAll(Heeded::Complete(3)),
         ],
         end: End::Record(b"abcdefghij", 1001),
         ..CASE

@@ -1,7 +1,7 @@
 //! A block written with no fault.
+use crate::action::Action;
 use crate::case::{CASE, Case};
 use crate::end::End;
-use crate::step::Step;
 use std::test::Fail;
 use writer::heed::Heeded;
 
@@ -9,13 +9,13 @@ use writer::heed::Heeded;
 fn a_block_over_a_spool(rt: HostRuntime) -> Result<(), Fail> {
     const WHOLE: Case = Case {
         nodes: 1,
-        steps: &[
-            Step::Write(b"abcdef", 6),
-            Step::Heed(Heeded::Confirmed(0)),
-            Step::Heed(Heeded::Nothing),
-            Step::Finish,
-            Step::Heed(Heeded::Confirmed(1)),
-            Step::Heed(Heeded::Complete(2)),
+        actions: &[
+            Action::Write(b"abcdef", 6),
+            Action::Heed(Heeded::Confirmed(0)),
+            Action::Heed(Heeded::Nothing),
+            Action::Finish,
+            Action::Heed(Heeded::Confirmed(1)),
+            Action::Heed(Heeded::Complete(2)),
         ],
         end: End::Record(b"abcdef", 1001),
         ..CASE

@@ -1,4 +1,4 @@
-//! The steps of a run, as data.
+//! The actions of a run, as data.
 use crate::link::{Instead, Put};
 use request::setup::Setup;
 use runs::command::{Command, Outcome};
@@ -7,11 +7,12 @@ use writer::finish::Finished;
 use writer::heed::Heeded;
 use writer::recover::Recovered;
 use writer::refusal::Refusal;
+use writer::state::kind::State;
 use writer::write::Written;
 
-/// A step: a call and what it has to come to, something that is to go wrong, or a look at what stands then.
+/// A call and what it has to come to, something that is to go wrong, or a look at what stands then.
 #[derive(Clone, Copy)]
-pub enum Step {
+pub enum Action {
     /// Bytes are written, and so many are taken.
     Write(&'static [u8], usize),
     /// The same, and then a frame is lost.
@@ -85,6 +86,8 @@ pub enum Look {
     On(&'static [u8]),
     /// The stamp and length that the namenode has the block at.
     Entry(u64, u64),
+    /// What the writer says that it is in the midst of, and why.
+    State(State),
 }
 
 // What a recovery comes to.
@@ -107,37 +110,37 @@ fn wrote(taken: usize, put_lost: bool) -> Outcome {
     Outcome::Wrote(Ok(Written { taken, put_lost }))
 }
 
-impl Step {
-    /// The call that the step is, and what it has to come to, where it is one that is not refused.
+impl Action {
+    /// The call that the action is, and what it has to come to, where it is one that is not refused.
     pub fn call(self) -> Option<(Command<'static>, Outcome)> {
         match self {
-            Step::Write(bytes, taken) => Some((Command::Write(bytes), wrote(taken, false))),
-            Step::WriteLost(bytes, taken) => Some((Command::Write(bytes), wrote(taken, true))),
-            Step::Heed(heeded) => Some((Command::Heed, Outcome::Heard(Ok(heeded)))),
-            Step::Beat(time, beat) => Some((Command::Beat(time), Outcome::Beaten(Ok(beat)))),
-            Step::Recover(time, stamp, packets) => {
+            Action::Write(bytes, taken) => Some((Command::Write(bytes), wrote(taken, false))),
+            Action::WriteLost(bytes, taken) => Some((Command::Write(bytes), wrote(taken, true))),
+            Action::Heed(heeded) => Some((Command::Heed, Outcome::Heard(Ok(heeded)))),
+            Action::Beat(time, beat) => Some((Command::Beat(time), Outcome::Beaten(Ok(beat)))),
+            Action::Recover(time, stamp, packets) => {
                 Some((
                     Command::Recover(time),
                     recovered(None, stamp, packets, false),
                 ))
             }
-            Step::RecoverLost(time, stamp, packets) => {
+            Action::RecoverLost(time, stamp, packets) => {
                 Some((
                     Command::Recover(time),
                     recovered(None, stamp, packets, true),
                 ))
             }
-            Step::Replace(time, choice, stamp, packets) => {
+            Action::Replace(time, choice, stamp, packets) => {
                 Some((
                     Command::Recover(time),
                     recovered(Some(choice), stamp, packets, false),
                 ))
             }
-            Step::Finish => Some((
+            Action::Finish => Some((
                 Command::Finish,
                 Outcome::Ended(Ok(Finished { put_lost: false })),
             )),
-            Step::FinishLost => {
+            Action::FinishLost => {
                 Some((
                     Command::Finish,
                     Outcome::Ended(Ok(Finished { put_lost: true })),

@@ -1,4 +1,5 @@
-//! What a writer works on: a pipeline and a namenode with faults, and the buffers that its calls are lent.
+//! What stands around a writer: a pipeline and a namenode with faults, and the buffers that its
+//! calls are lent.
 use crate::cluster::{INFOS, STAMP, TOKEN, datanodes, token};
 use crate::plan::Plan;
 use anyhow::Context;
@@ -11,27 +12,22 @@ use runs::client::call;
 use runs::command::{Command, Outcome};
 use std::alloc::Global;
 use std::mem;
+use writer::buffers::Buffers;
 use writer::open::Opened;
 use writer::opening::Opening;
 use writer::state::Writer;
-
-/// So many octets hold every request and every answer.
-const MESSAGE: usize = 4096;
 
 const STORAGE_IDS: [&[u8]; 8] = [b"DS-1"; 8];
 
 const STORAGE_TYPES: [u8; 8] = [1; 8];
 
 #[derive(Drop)]
-pub struct Site {
+pub struct Surroundings {
     pub link: FaultyLink<Bench>,
     pub namenode: FaultyNamenode<Pool>,
-    store: Vec<u8>,
-    /// A store of another length.
+    buffers: Buffers,
+    /// A store that is one octet longer.
     other: Vec<u8>,
-    frame: Vec<u8>,
-    request: Vec<u8>,
-    answer: Vec<u8>,
 }
 
 // A bench that keeps the bytes that the block has already, with faults.
@@ -63,22 +59,20 @@ fn namenode(heap: Global, chance: &mut Chance, plan: Plan) -> anyhow::Result<Fau
     Ok(FaultyNamenode::over(pool, Chance::from_seed(seed), plan.refusals))
 }
 
-impl Site {
+impl Surroundings {
     pub fn new(
         heap: Global,
         chance: &mut Chance,
         plan: Plan,
         bytes: &[u8],
-    ) -> anyhow::Result<Site> {
-        let store = plan.size.capacity().saturating_mul(plan.slots);
-        Ok(Site {
+    ) -> anyhow::Result<Surroundings> {
+        let buffers = Buffers::new(heap, plan.size, plan.slots)?;
+        let other = buffers.store.len().saturating_add(1);
+        Ok(Surroundings {
             link: link(heap, chance, plan, bytes)?,
             namenode: namenode(heap, chance, plan)?,
-            store: vec![in heap; 0u8; store]?,
-            other: vec![in heap; 0u8; store.saturating_add(1)]?,
-            frame: vec![in heap; 0u8; plan.size.frame_capacity()]?,
-            request: vec![in heap; 0u8; MESSAGE]?,
-            answer: vec![in heap; 0u8; MESSAGE]?,
+            buffers,
+            other: vec![in heap; 0u8; other]?,
         })
     }
 
@@ -112,30 +106,30 @@ impl Site {
             heap,
             opening,
             &mut self.link,
-            &self.store,
-            &self.frame,
-            &mut self.request,
-            &mut self.answer,
+            &self.buffers.store,
+            &self.buffers.frame,
+            &mut self.buffers.request,
+            &mut self.buffers.answer,
         )?)
     }
 
     /// Makes a call with the writer's own store, or with one of another length in its place.
     pub fn call(&mut self, writer: &mut Writer, command: Command<'_>, other: bool) -> Outcome {
         if other {
-            mem::swap(&mut self.store, &mut self.other);
+            mem::swap(&mut self.buffers.store, &mut self.other);
         }
         let outcome = call(
             writer,
             &mut self.link,
             &mut self.namenode,
-            &mut self.store,
-            &mut self.frame,
-            &mut self.request,
-            &mut self.answer,
+            &mut self.buffers.store,
+            &mut self.buffers.frame,
+            &mut self.buffers.request,
+            &mut self.buffers.answer,
             command,
         );
         if other {
-            mem::swap(&mut self.store, &mut self.other);
+            mem::swap(&mut self.buffers.store, &mut self.other);
         }
         outcome
     }
