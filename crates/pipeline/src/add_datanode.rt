@@ -103,8 +103,7 @@ impl<'a, L: Link> Channel<'a, L> {
     /// Adds a datanode to a pipeline of the datanodes `left`, after those that are `gone`; `old` are all that it had. The namenode is asked
     /// once and its list is read into `list`. The first datanode there that is none of `old` is the new one, and the one before it, or the
     /// second where it is first, copies the block to it. Answers the places of the two in `list`.
-    // That the list's capacity stays, and that the loans are the same, is said here too: the writer goes on with the list and the channel.
-    // Places and no references: the list stays the caller's table, and a recovery tells the two places.
+    // The writer goes on with the list and the channel, so that the capacity and the loans stay is said too.
     pub fn add_datanode<N: NamenodeProtocol>(
         &mut self,
         namenode: &mut N,

@@ -15,7 +15,7 @@ pub struct NodeTable {
     ghost room: { 8 ≤ vec_capacity rows },
 }
 
-// That the capacity stays is said at each change, since the invariant says only that there is enough: no call takes memory, or gives it up.
+// No call but the first takes memory or gives it up, so each says that the capacity stays.
 impl NodeTable {
     ghost use Rattle.std.specs.Borrow.{sem, follows};
     ghost use Rattle.std.specs.Vec.{with_item};
@@ -82,7 +82,7 @@ impl NodeTable {
         ensures items { self.new.rows.items ≡ list.now }
         ensures capacity { vec_capacity self.new.rows ≡ vec_capacity self.old.rows }
     {
-        // Stays by the place: the rows are changed in place, in the memory taken at the opening, as the project's memory rule wants it.
+        // The rows are changed in place, in the memory that was taken at the opening.
         for (i, node) in list.iter().enumerate() {
             self.put(i, node);
         }

@@ -8,7 +8,6 @@ use proto::datanode::Datanode;
 use proto::token::Token;
 
 /// The datanode of a row, where the row is in form.
-// Not `TryFrom`: neither the row's type nor the datanode's is of this crate. An Option, since to be out of form is the one way to fail.
 pub fn read_node(row: Offered<'_>) -> Option<Datanode>
     ensures { NodeRead (row_in row.entry) result }
 {
@@ -16,7 +15,7 @@ pub fn read_node(row: Offered<'_>) -> Option<Datanode>
     Datanode::new(row.info, row.storage_id, storage_type)
 }
 
-// Puts the datanodes of the list into the table, where all of them are in form. An Option of nothing, since there is one way to fail.
+// Puts the datanodes of the list into the table, where all of them are in form.
 fn read_rows<N: NamenodeProtocol>(namenode: &N, list: &mut NodeTable) -> Option<()>
     requires { length (N.NamenodeProtocol.offer namenode.now).rows ≤ vec_capacity list.old.rows }
     ensures rows { RowsRead (N.NamenodeProtocol.offer namenode.now).rows list.new.rows.items
@@ -24,7 +23,7 @@ fn read_rows<N: NamenodeProtocol>(namenode: &N, list: &mut NodeTable) -> Option<
     ensures capacity { vec_capacity list.new.rows ≡ vec_capacity list.old.rows }
 {
     list.clear();
-    // Stays by the position: the interface lends the rows one by one, so that a namenode need not hold a table of them.
+    // By position: the interface lends the rows one by one, so that a namenode need not hold a table of them.
     for i in 0..namenode.offered_len() {
         let node = read_node(namenode.offered(i)?)?;
         list.push(&node);
@@ -34,7 +33,7 @@ fn read_rows<N: NamenodeProtocol>(namenode: &N, list: &mut NodeTable) -> Option<
 
 /// Reads the list that the namenode holds into `list`, and answers its token: nothing where the list has not one to eight datanodes, or
 /// one of them or the token is not in form.
-// An Option: of whatever is wrong with a list, the interface knows one cause, which the caller names (`NoDatanode::List`).
+// Of whatever is wrong with a list, the interface knows one cause (`NoDatanode::List`).
 pub fn read_offer<N: NamenodeProtocol>(namenode: &N, list: &mut NodeTable) -> Option<Token>
     ensures read { OfferRead (N.NamenodeProtocol.offer namenode.now) list.new.rows.items result }
     ensures capacity { vec_capacity list.new.rows ≡ vec_capacity list.old.rows }

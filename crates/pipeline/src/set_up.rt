@@ -23,7 +23,7 @@ pub struct SetupRequest<'a> {
     pub chunk_size: u32,
 }
 
-// The request for these datanodes, one to eight, which is sent to the first of them. A slice, since a writer has them in several tables.
+// The request for these datanodes, one to eight, which is sent to the first of them.
 fn request_for<'a>(wanted: SetupRequest<'a>, nodes: &'a [Datanode]) -> WriteBlock<'a>
     requires { (1 ≤ length nodes.now) × (length nodes.now ≤ 8) }
     ensures { Requests wanted.entry nodes.now result }

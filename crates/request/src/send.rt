@@ -23,7 +23,7 @@ pub trait Request: Message {
         ensures { result ≡ code };
 
     /// The message's length, which is such that a buffer of 4,096 octets holds every request.
-    // A method, since no law of a trait is made for a type with a lifetime: the bound is its contract.
+    // A contract and no law: its proof cites lemmas of proofs/, which a law in an impl may not.
     fn message_len(&self) -> usize
         ensures value { result ≡ length (encode_all (Self.Message.fields self.now)) }
         ensures bound { result ≤ 3728 };

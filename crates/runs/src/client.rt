@@ -58,7 +58,7 @@ pub fn run<C: Chain, N: Namenode>(
         (point_of h writer.old store.old link.old namenode.old) commands.now outcomes.old
         (λ k. point_of k writer.new store.new link.new namenode.new) outcomes.new }
 {
-    // Stays by the place: of what is written through an iterator a proof knows the length alone.
+    // By place: of what is written through an iterator a proof knows the length alone.
     'calls: for i in 0..commands.len().min(outcomes.len()) {
         let command = commands[i];
         let outcome = call(

@@ -1,5 +1,5 @@
 -- The rows of an opening's three lists. Assumes nothing.
-use Rattle.std.proofs.Common.{◌≡◌, ℕ, zero, suc, ◌<◌, ◌≤◌, List, [], ◌∷◌, map, length, get_or, replicate, refl, ap, not-suc-le-zero, arith, Bor}
+use Rattle.std.proofs.Common.{◌≡◌, ℕ, zero, suc, ◌<◌, List, [], ◌∷◌, map, length, get_or, refl, ap, not-suc-le-zero, arith, Bor}
 use Rattle.proto.specs.declared.datanode.Datanode.{Datanode}
 use Rattle.pipeline.specs.Offers.{node_row}
 use Rattle.namenode.specs.Entries.{Row}
@@ -18,11 +18,6 @@ rows_long [] names types ln lt = refl
 rows_long (a ∷ infos) [] types ln lt = absurd (omega (arith, ln))
 rows_long (a ∷ infos) (b ∷ names) [] ln lt = absurd (omega (arith, lt))
 rows_long (a ∷ infos) (b ∷ names) (t ∷ types) ln lt = ap suc (rows_long infos names types (omega (arith, ln)) (omega (arith, lt)))
-
-pub none_large : (n i k : ℕ) → get_or (replicate n 0) i 0 ≤ k
-none_large zero i k = omega arith
-none_large (suc n) zero k = omega arith
-none_large (suc n) (suc i) k = none_large n i k
 
 pub map_long : (ds : List Datanode) → length (map node_row ds) ≡ length ds
 map_long [] = refl

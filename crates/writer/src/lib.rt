@@ -1,9 +1,9 @@
 //! The writer of one replicated block: open, write, heed, beat, recover, finish, close.
 //!
 //! Each call but `state` and `close` is lent four buffers (`buffers`), as `&mut` those that it may
-//! write: so its signature says which ones it leaves alone. That they suffice for this writer's
-//! terms is asked by the methods below a call (`store_len`, `terms_in_bounds`). So is the state
-//! that the call was admitted in, and what a recovery has chosen.
+//! write: so its signature says which ones it leaves alone. A call looks first whether it is refused;
+//! the methods below it ask that store and frame buffer suffice (`buffers`), for the state that the
+//! call was admitted in, and for what a recovery has chosen.
 #![tactic(auto)]
 
 pub mod admit;

@@ -32,7 +32,7 @@ use std::alloc::{AllocError, Global};
 
 /// What an opening came to: a writer, which is closed where the opening was refused.
 #[derive(Drop)]
-// No `Result<Writer, Refusal>`: the interface wants a closed writer of a refused opening too, so that each later call has its number.
+// A refused opening has a closed writer too, so that each later call has its number.
 pub struct Opened {
     pub writer: Writer,
     pub outcome: Result<(), Refusal>,
@@ -40,7 +40,6 @@ pub struct Opened {
 
 impl Terms {
     // The terms of a block that was never opened: the least there are.
-    // No Option of terms in a writer: an open one always has them, and each call would have to take them out of it.
     fn none() -> Terms
         ensures fits { Fits result }
         ensures empty { result.initial_len ≡ 0 }
@@ -62,7 +61,7 @@ impl Terms {
 
 impl Tables {
     // A writer that has taken nothing, on these tables and the datanodes in them.
-    // That these are at most eight is asked for, here and below: a table has room for eight at the least, and says no more of its rows.
+    // At most eight datanodes: a table has room for eight at the least, and says no more of its rows.
     fn into_writer(self, terms: Terms, token: Token, state: State, stamp: u64, time: u64) -> Writer
         requires fits { Fits terms }
         requires few { length self.nodes.rows.items ≤ 8 }
@@ -201,7 +200,7 @@ impl Writer {
             ≡ channel_over link.entry.now request.old answer.old }
     {
         let mut tables = Tables::new(heap)?;
-        // Two matches and no `?`: a refused opening is no `Err` here, since the tables go into the closed writer that is answered with it.
+        // A refused opening is no `Err` here, since the tables go into the closed writer that is answered with it.
         let (terms, token) = match tables.settle(
             opening,
             Lengths::of(store, frame, request, answer),

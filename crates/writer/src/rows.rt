@@ -8,7 +8,7 @@ use namenode::protocol::Offered;
 use pipeline::nodes::NodeTable;
 use pipeline::offer::read_node;
 
-// That the three lists are even is asked for: an opening with uneven ones is one too, and is refused by a number.
+// Both ask for even lists: an opening with uneven ones is refused by a number of its own before.
 impl<'a> Opening<'a> {
     // The datanode at that place of the three lists.
     fn row(self, i: usize) -> Offered<'a>
@@ -24,7 +24,7 @@ impl<'a> Opening<'a> {
         }
     }
 
-    // Puts the datanodes into the table, where all of them are in form. An Option of nothing, since there is one way to fail.
+    // Puts the datanodes into the table, where all of them are in form.
     pub(crate) fn read_nodes(self, list: &mut NodeTable) -> Option<()>
         requires infos_len_bound { length self.infos.now ≤ 8 }
         requires storage_ids_len { (length self.storage_ids.now ≡ length self.infos.now)
@@ -33,7 +33,7 @@ impl<'a> Opening<'a> {
         ensures count { length list.new.rows.items ≤ length self.entry.infos.now }
     {
         list.clear();
-        // Stays by the place: the three lists come from outside, and one place serves all.
+        // By place, since the three lists lie apart.
         for i in 0..self.infos.len() {
             let node = read_node(self.row(i))?;
             list.push(&node);

@@ -56,7 +56,7 @@ fn slots_in(store_len: usize, capacity: usize) -> usize
 }
 
 // What stays of an opening that is not refused.
-// That the opening passed each look is asked for: a type of what has passed would be made for this one function.
+// The opening has passed each look.
 fn terms_for(opening: Opening<'_>, size: PacketSize, forms: Forms, lengths: Lengths) -> Terms
     requires chunk_value { (size.chunk ≡ opening.chunk_size) × (size.packet ≡ opening.packet_size) }
     requires opening_value { (by_length opening ≡ None) × (by_buffers opening lengths ≡ None) }
@@ -81,8 +81,7 @@ fn terms_for(opening: Opening<'_>, size: PacketSize, forms: Forms, lengths: Leng
 
 impl Tables {
     // Reads the datanodes into their table, and the token and the names; nothing where one of them or the path is not in form.
-    // An Option: whatever of these is out of form, the interface has one refusal for it, which the caller names (`Refusal::Form`).
-    // That the lists are few and even is asked for: the look before this one refuses others, and `Opening` itself may hold them.
+    // Whatever of these is out of form, there is one refusal for it (`Refusal::Form`).
     fn read_forms(&mut self, opening: Opening<'_>) -> Option<Forms>
         requires { (length opening.infos.now ≤ 8)
             × (length opening.storage_ids.now ≡ length opening.infos.now)

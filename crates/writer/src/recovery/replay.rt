@@ -80,7 +80,7 @@ impl SetUp {
         let SetUp { least, stamp } = self;
         let finished = writer.state.has_ended();
         let mut offset = least;
-        // Stays by the place among the held packets: their number, their slot and the block's end follow from it.
+        // By the place among the held packets: their number, their slot and the block's end follow from it.
         'packets: for i in 0..writer.count {
             let seqno = writer.first + i as u64;
             let last = is_last(finished, i, writer.count);
