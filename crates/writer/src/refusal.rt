@@ -30,7 +30,7 @@ pub enum Refusal {
     UnknownSeqno,
     /// A passing answer has a number that is not the first held packet's.
     Unexpected,
-    /// No datanode is left.
+    /// At least as many positions failed as there are datanodes.
     AllFailed,
     /// A failed position lies past the pipeline.
     PastPipeline,
@@ -106,7 +106,7 @@ impl Refusal {
             Refusal::UnknownSeqno => "an answer passes with the number -2, which no packet has",
             Refusal::Unexpected =>
                 "an answer passes with another number than the first held packet's",
-            Refusal::AllFailed => "no datanode is left",
+            Refusal::AllFailed => "as many positions failed as there are datanodes, or more",
             Refusal::PastPipeline => "a position that failed lies past the pipeline",
             Refusal::Replacement(_) => "the datanode that failed could not be replaced",
             Refusal::Stamp => "the namenode gave no new stamp, or a token out of form",
