@@ -82,7 +82,8 @@ pub fn checksum<P: Polynomial>(bytes: &[u8]) -> u32
 /// A sum continued over a second part: where `sum` is the sum of a first part, whichever that was,
 /// the sum of that part and `bytes` joined.
 pub fn append<P: Polynomial>(sum: u32, bytes: &[u8]) -> u32
-    ensures { (bs : List ℕ) → sum ≡ sum_of P.Polynomial.poly bs → result ≡ sum_of P.Polynomial.poly (bs ++ bytes.now) }
+    ensures { (bs : List ℕ) → sum ≡ sum_of P.Polynomial.poly bs
+        → result ≡ sum_of P.Polynomial.poly (bs ++ bytes.now) }
 {
     update::<P>(sum ^ 0xffff_ffff, bytes) ^ 0xffff_ffff
 }

@@ -32,7 +32,8 @@ pub fn checksum(bytes: &[u8]) -> u32
 /// A sum continued over a second part: where `sum` is the CRC-32C of a first part, whichever that was,
 /// the CRC-32C of that part and `bytes` joined.
 pub fn append(sum: u32, bytes: &[u8]) -> u32
-    ensures { (bs : List ℕ) → sum ≡ sum_of 0x82F63B78 bs → result ≡ sum_of 0x82F63B78 (bs ++ bytes.now) }
+    ensures { (bs : List ℕ) → sum ≡ sum_of 0x82F63B78 bs
+        → result ≡ sum_of 0x82F63B78 (bs ++ bytes.now) }
 {
     crc::append::<Castagnoli>(sum, bytes)
 }

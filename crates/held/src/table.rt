@@ -39,7 +39,9 @@ impl HeldTable {
     /// One record, lent to be changed.
     fn record(&mut self, i: usize) -> &mut HeldPacket
         requires { i < vec_len self.old.records }
-        ensures* follows { sem 𝓛 (follows the_row packet-row self.entry.ghost_name result.ghost_name (λ w. record { records = with_item self.old.records i w; table = self.old.table })) }
+        ensures* follows { sem 𝓛 (follows the_row packet-row
+            self.entry.ghost_name result.ghost_name
+            (λ w. record { records = with_item self.old.records i w; table = self.old.table })) }
         ensures value { result.now ≡ slice_index_or self.old.records.items i result.now }
     {
         &mut self.records[i]
@@ -47,7 +49,8 @@ impl HeldTable {
 
     /// Notes how many bytes the packet of that slot has. A slot past the last changes nothing.
     pub fn note(&mut self, i: usize, len: usize)
-        ensures { sizes_of self.new.records.items ≡ slice_set (sizes_of self.old.records.items) i len }
+        ensures { sizes_of self.new.records.items
+            ≡ slice_set (sizes_of self.old.records.items) i len }
     {
         if i < self.records.len() {
             self.record(i).len = len;

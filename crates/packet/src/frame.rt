@@ -35,7 +35,8 @@ pub(crate) fn put_lengths(out: &mut [u8], whole: u32, head: u16)
 
 // How many octets the sums take, where a frame can carry them and the data.
 fn carried_sums(data_len: usize, chunk_size: u32) -> Option<usize>
-    ensures { result ≡ (if nat_lt (4 + (4 * chunk_count chunk_size data_len + data_len)) (2 ^ 31) then Some (4 * chunk_count chunk_size data_len) else None) }
+    ensures { let sums = 4 * chunk_count chunk_size data_len in
+        result ≡ (if nat_lt (4 + (sums + data_len)) (2 ^ 31) then Some sums else None) }
 {
     let room = (LENGTH_LIMIT - 4).checked_sub(data_len)?;
     sums_len(data_len, chunk_size).filter(|sums| *sums < room)
@@ -45,7 +46,8 @@ fn carried_sums(data_len: usize, chunk_size: u32) -> Option<usize>
 fn put_frame(out: &mut [u8], packet: WritePacket<'_>, chunk_size: u32, sums: usize)
     requires sums_value { sums ≡ 4 * chunk_count chunk_size (length packet.«data».now) }
     requires data_bound { 4 + (sums + length packet.«data».now) < 2 ^ 31 }
-    requires out_len { length out.old ≡ 6 + (header_length packet.last + (sums + length packet.«data».now)) }
+    requires out_len { length out.old
+        ≡ 6 + (header_length packet.last + (sums + length packet.«data».now)) }
     ensures { out.new ≡ frame_of chunk_size packet.entry }
 {
     let header = PacketHeader {

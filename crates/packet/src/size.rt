@@ -12,7 +12,8 @@ pub struct PacketSize {
     count: u32,
     ghost counted: { count ≡ chunks_of 4 chunk packet },
     ghost bounds: { (0 < chunk) × (chunk ≤ 1_048_576) × (0 < count) × (count ≤ 16_777_216) },
-    ghost accepted: { (chunk_size_refused chunk ≡ false) × (packet_size_refused 4 chunk packet ≡ false) },
+    ghost accepted: { (chunk_size_refused chunk ≡ false)
+        × (packet_size_refused 4 chunk packet ≡ false) },
 }
 
 impl PacketSize {

@@ -6,7 +6,8 @@ ghost use Rattle.packet.specs.Sums.{chunk_count, sums_of};
 /// How many octets the sums of `data_len` bytes take, if a `usize` holds it.
 /// No data has none, and there are none where the chunk size is 0.
 pub fn sums_len(data_len: usize, chunk_size: u32) -> Option<usize>
-    ensures { result ≡ (if nat_lt (4 * chunk_count chunk_size data_len) (2 ^ 64) then Some (4 * chunk_count chunk_size data_len) else None) }
+    ensures { let sums = 4 * chunk_count chunk_size data_len in
+        result ≡ (if nat_lt sums (2 ^ 64) then Some sums else None) }
 {
     if chunk_size == 0 {
         return Some(0);

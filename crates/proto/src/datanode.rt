@@ -38,7 +38,13 @@ impl Datanode {
 
     /// The datanode that these octets are, where they, the storage's name and its type, 0 to 127, are in form.
     pub fn new(info: &[u8], storage_id: &[u8], storage_type: u8) -> Option<Datanode>
-        ensures { elim result [ Some d ↦ (is_node info.now storage_id.now storage_type ≡ true) × (octets_in d.info ≡ info.now) × (octets_in d.storage_id ≡ storage_id.now) × (d.storage_type ≡ storage_type) | None ↦ is_node info.now storage_id.now storage_type ≡ false ] }
+        ensures { elim result [
+          | Some d ↦ (is_node info.now storage_id.now storage_type ≡ true)
+              × (octets_in d.info ≡ info.now)
+              × (octets_in d.storage_id ≡ storage_id.now)
+              × (d.storage_type ≡ storage_type)
+          | None ↦ is_node info.now storage_id.now storage_type ≡ false
+        ] }
     {
         if !is_node(info, storage_id, storage_type) {
             return None;

@@ -47,7 +47,9 @@ impl Error for TooLong {}
 impl<const N: usize> TryFrom<&[u8]> for Fixed<N> {
     type Error = TooLong;
 
-    ghost try_from_gives = { λ bytes r. MatchResult r (λ f. (take f.len f.octets ≡ bytes.now) × (length bytes.now ≤ N)) (λ _. N < length bytes.now) };
+    ghost try_from_gives = { λ bytes r. MatchResult r
+        (λ f. (take f.len f.octets ≡ bytes.now) × (length bytes.now ≤ N))
+        (λ _. N < length bytes.now) };
 
     fn try_from(bytes: &[u8]) -> Result<Fixed<N>, TooLong> {
         let len = bytes.len();

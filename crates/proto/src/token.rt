@@ -25,7 +25,10 @@ impl Token {
 
     /// The token that these octets are, where they are one in form.
     pub fn new(message: &[u8]) -> Option<Token>
-        ensures { elim result [ Some t ↦ (is_token message.now ≡ true) × (octets_in t.message ≡ message.now) | None ↦ is_token message.now ≡ false ] }
+        ensures { elim result [
+          | Some t ↦ (is_token message.now ≡ true) × (octets_in t.message ≡ message.now)
+          | None ↦ is_token message.now ≡ false
+        ] }
     {
         if !conforms(&TOKEN, message) {
             return None;

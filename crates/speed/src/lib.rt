@@ -41,7 +41,8 @@ pub extern "C" fn speed_write_frame(
     data: &[u8],
     chunk_size: u32,
 ) -> usize
-    ensures value { result ≡ unwrap_or (end_in (packet_of chunk_size offset seqno last «data».now) buf.old) 0 }
+    ensures value { result
+        ≡ unwrap_or (end_in (packet_of chunk_size offset seqno last «data».now) buf.old) 0 }
     ensures after { buf.new ≡ over (packet_of chunk_size offset seqno last «data».now) buf.old }
 {
     let packet = WritePacket {

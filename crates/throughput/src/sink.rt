@@ -23,13 +23,15 @@ impl<C> Sink<C> {
 
 // Nothing is said of what it puts and answers: what is measured makes no promise.
 impl<C: Link> Link for Sink<C> {
-    ghost sets = { λ a node request least came b. C.Link.sets a.inner node request least came b.inner };
+    ghost sets = { λ a node request least came b.
+        C.Link.sets a.inner node request least came b.inner };
 
     ghost puts = { λ a frame taken b. Unit {0} };
 
     ghost nexts = { λ a came b. Unit {0} };
 
-    ghost transfers = { λ a node request came b. C.Link.transfers a.inner node request came b.inner };
+    ghost transfers = { λ a node request came b.
+        C.Link.transfers a.inner node request came b.inner };
 
     fn set_up(
         &mut self,

@@ -57,7 +57,10 @@ pub struct TestLink<L> {
 
 // Octets at the front of `answer`, where they fit.
 fn place(octets: &[u8], answer: &mut [u8]) -> Result<usize, LinkLost>
-    ensures { elim result [ Ok n ↦ Front octets.now answer.old answer.new n | Err _ ↦ answer.new ≡ answer.old ] }
+    ensures { elim result [
+      | Ok n ↦ Front octets.now answer.old answer.new n
+      | Err _ ↦ answer.new ≡ answer.old
+    ] }
 {
     let len = octets.len();
     if len > answer.len() {

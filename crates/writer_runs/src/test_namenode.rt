@@ -27,7 +27,14 @@ pub struct TestNamenode {
 }
 
 impl NamenodeProtocol for TestNamenode {
-    ghost offer = { λ n. record { rows = record { info = n.row.info.now; storage = n.row.storage_id.now; kind = n.row.storage_type } ∷ []; token = n.token.now } };
+    ghost offer = { λ n. record {
+      rows = record {
+        info = n.row.info.now;
+        storage = n.row.storage_id.now;
+        kind = n.row.storage_type;
+      } ∷ [];
+      token = n.token.now;
+    } };
 
     ghost token = { λ n. n.token.now };
 
