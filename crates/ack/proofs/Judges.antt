@@ -6,11 +6,11 @@ use Rattle.wire.specs.declared.field.DecodeError.{DecodeError}
 use Rattle.wire.specs.Read.{and_then}
 use Rattle.ack.specs.declared.ack.PipelineAck.{PipelineAck}
 use Rattle.ack.specs.Acks.{AckFields, ack_of}
-use Rattle.ack.specs.Held.{held, ack_read}
+use Rattle.ack.specs.Reading.{ack_of_fields, ack_read}
 use Rattle.ack.specs.Verdicts.{verdict_of, verdict_on, judged, number_if, passes}
 
-verdict_held : (r : Result AckFields DecodeError) → and_then (and_then r (λ a. Ok (held a))) (λ p. Ok (verdict_of p.seqno p.replies.failed)) ≡ and_then r (λ a. Ok (judged a))
-unfolding held
+verdict_held : (r : Result AckFields DecodeError) → and_then (and_then r (λ a. Ok (ack_of_fields a))) (λ p. Ok (verdict_of p.seqno p.replies.failed)) ≡ and_then r (λ a. Ok (judged a))
+unfolding ack_of_fields
 verdict_held (Ok a) = refl
 verdict_held (Err e) = refl
 
@@ -23,8 +23,8 @@ abbrev number_in : Option PipelineAck → Option ℕ
 number_in (Some ack) = cond (eqb ack.replies.failed.count 0) (Some ack.seqno) None
 number_in None = None
 
-number_held : (r : Result AckFields DecodeError) → number_in (result_ok (and_then r (λ a. Ok (held a)))) ≡ number_if r
-unfolding held
+number_held : (r : Result AckFields DecodeError) → number_in (result_ok (and_then r (λ a. Ok (ack_of_fields a)))) ≡ number_if r
+unfolding ack_of_fields
 number_held (Ok a) = refl
 number_held (Err e) = refl
 

@@ -1,4 +1,4 @@
-pub mod Counted
+pub mod Tallied
 pub mod Judges
 pub mod Positions
 pub mod Tallies

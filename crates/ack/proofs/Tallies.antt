@@ -10,7 +10,7 @@ use Rattle.wire.specs.Read.{and_then}
 use Rattle.ack.specs.declared.tally.Replies.{Replies}
 use Rattle.ack.specs.Acks.{AckPart, number, replies, nothing, AckFields, ack_part, joined, merge_ack, no_fields}
 use Rattle.ack.specs.Failures.{known, failures, has, last_of, nodes_at, failed_nodes}
-use Rattle.ack.specs.Held.{took, merges_ack, no_ack, held}
+use Rattle.ack.specs.Reading.{took, merges_ack, no_ack, ack_of_fields}
 use Rattle.ack.specs.Tally.{with_failed, placed, noted}
 
 known_push : (rs : List ℕ) (r : ℕ) → known (rs ++ r ∷ []) ≡ known rs ++ cond (ltb (r % 2 ^ 32) 14) (r % 2 ^ 32 ∷ []) []
@@ -102,19 +102,19 @@ tallied_all cs [] = ap tallied (append-nil cs)
 tallied_all cs (n ∷ ns) =
     ap tallied (sym (append_assoc cs (n ∷ []) ns)) ∙ tallied_all (cs ++ n ∷ []) ns ∙ ap (λ t. fold noted t ns) (tallied_push cs n)
 
-took_held : (a : AckFields) (p : AckPart) → took (held a) p ≡ held (joined a p)
-unfolding held failed_nodes
+took_held : (a : AckFields) (p : AckPart) → took (ack_of_fields a) p ≡ ack_of_fields (joined a p)
+unfolding ack_of_fields failed_nodes
 took_held a (number n) = refl
 took_held a (replies ns) = ap (λ t. record { seqno = a.seqno; replies = t }) (sym (tallied_all a.codes ns))
 took_held a nothing = refl
 
-pub held_merge : (a : AckFields) (f : WireField) → merges_ack (held a) f ≡ and_then (merge_ack a f) (λ t. Ok (held t))
+pub held_merge : (a : AckFields) (f : WireField) → merges_ack (ack_of_fields a) f ≡ and_then (merge_ack a f) (λ t. Ok (ack_of_fields t))
 held_merge a f = step (ack_part f)
   where
-    step : (r : Result AckPart Fault) → and_then r (λ p. Ok (took (held a) p)) ≡ and_then (and_then r (λ p. Ok (joined a p))) (λ t. Ok (held t))
+    step : (r : Result AckPart Fault) → and_then r (λ p. Ok (took (ack_of_fields a) p)) ≡ and_then (and_then r (λ p. Ok (joined a p))) (λ t. Ok (ack_of_fields t))
     step (Ok p) = ap Ok (took_held a p)
     step (Err e) = refl
 
-pub held_none : held no_fields ≡ no_ack
-unfolding held failed_nodes
+pub held_none : ack_of_fields no_fields ≡ no_ack
+unfolding ack_of_fields failed_nodes
 held_none = refl

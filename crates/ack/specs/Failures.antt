@@ -30,5 +30,5 @@ unfoldable pub failed_nodes : List ℕ → FailedNodes
 failed_nodes replies = nodes_at (failures 0 (known replies))
 
 -- no more positions are marked than are counted
-abbrev pub IsCounted : FailedNodes → Type 0
-IsCounted f = count_by (λ b. b) f.positions ≤ f.count
+abbrev pub IsTallied : FailedNodes → Type 0
+IsTallied f = count_by (λ b. b) f.positions ≤ f.count

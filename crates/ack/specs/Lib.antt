@@ -1,6 +1,6 @@
 pub mod Acks
 pub mod Failures
-pub mod Held
+pub mod Reading
 pub mod Laws
 pub mod Packed
 pub mod Responses

@@ -3,7 +3,7 @@ ghost use Rattle.std.specs.Prelude.{◌≡◌, ◌+◌, ◌^◌, ◌<◌, ◌≤
 ghost use Rattle.wire.specs.Fields.{varint, part};
 ghost use Rattle.wire.specs.declared.field.Fault.TheVariants.{WireType};
 ghost use Rattle.ack.specs.Acks.{zigzag, is_ack_tag};
-ghost use Rattle.ack.specs.Held.{no_ack, merges_ack, ack_size, ack_read};
+ghost use Rattle.ack.specs.Reading.{no_ack, merges_ack, ack_size, ack_read};
 ghost use Rattle.ack.specs.Verdicts.{verdict_of, verdict_on, passes};
 ghost use Rattle.std.proofs.Common.{rules};
 

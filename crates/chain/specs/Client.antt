@@ -3,9 +3,9 @@ use Rattle.std.specs.Prelude.{◌≡◌, ℕ, true, false, List, Option, Ok, Err
 use Rattle.chain.specs.Acts.{Answered}
 use Rattle.chain.specs.declared.client.ExchangeError.{ExchangeError}
 use Rattle.chain.specs.declared.client.ExchangeError.TheVariants.{Unsent, Lost}
-use Rattle.chain.specs.declared.link.Link as link
+use Rattle.chain.specs.declared.link.Link as Link
 
-module _ {L : Type 0} (acts : link.Ghosts L) where
+module _ {L : Type 0} (acts : Link.Ghosts L) where
   -- the frame was taken, and then this came of the asking
   pub record Taken (a : L) (frame before after : List ℕ) (b : L) (told : Result (Option ℕ) ExchangeError) : Type 0 where
     pub between : L

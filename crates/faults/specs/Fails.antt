@@ -4,7 +4,7 @@ use Rattle.ack.specs.Verdicts.{passes}
 use Rattle.packet.specs.Frame.{Packet}
 use Rattle.packet.specs.Reading.{Reads}
 use Rattle.chain.specs.Acts.{Came, nothing, lost, answer}
-use Rattle.chain.specs.declared.link.Link as link
+use Rattle.chain.specs.declared.link.Link as Link
 use Rattle.faults.specs.declared.failing_node.Failure.{Failure}
 use Rattle.faults.specs.declared.failing_node.Failure.TheVariants as failure
 use Rattle.faults.specs.declared.failing_node.FailingNode.{FailingNode}
@@ -43,7 +43,7 @@ Turns a frame true b =
     (p : Option Packet) × (Reads frame p × (b ≡ changed a b.inner (once_put a.failure (numbered p a.packet)) a.answered))
 Turns a frame false b = b ≡ changed a b.inner a.failure a.answered
 
-abbrev pub Puts : {C : Type 0} → link.Ghosts C → FailingNode C → List ℕ → Bool → FailingNode C → Type 0
+abbrev pub Puts : {C : Type 0} → Link.Ghosts C → FailingNode C → List ℕ → Bool → FailingNode C → Type 0
 Puts acts a frame taken b = acts.puts a.inner frame taken b.inner × Turns a frame taken b
 
 -- how many answers there were, as far as they are counted
@@ -53,7 +53,7 @@ counted n lost = n
 counted n (answer message) = min (n + 1) (2 ^ 64 - 1)
 
 -- the pipeline's own act; or, in that turn and in no other, an answer that it has no part in
-abbrev pub Nexts : {C : Type 0} → link.Ghosts C → FailingNode C → Came → FailingNode C → Type 0
+abbrev pub Nexts : {C : Type 0} → Link.Ghosts C → FailingNode C → Came → FailingNode C → Type 0
 Nexts acts a came b =
     (acts.nexts a.inner came b.inner × (due a ≡ false) × (b ≡ changed a b.inner a.failure (counted a.answered came)))
     ⊎ (Refuses came × (due a ≡ true) × (b ≡ changed a a.inner failure.Past a.answered))

@@ -5,7 +5,7 @@ use Rattle.packet.specs.Reading.{Reads}
 use Rattle.proto.specs.declared.datanode.Datanode.{Datanode}
 use Rattle.chain.specs.Acts.{Came}
 use Rattle.chain.specs.Meaning.{Seen}
-use Rattle.chain.specs.declared.link.Link as link
+use Rattle.chain.specs.declared.link.Link as Link
 use Rattle.faults.specs.declared.faulty_link.FaultyLink.{FaultyLink}
 use Rattle.faults.specs.Chances.{hits}
 use Rattle.faults.specs.Faults.{first_seqno, Stray, Acts}
@@ -36,7 +36,7 @@ abbrev pub last_after_set_up : Option (List ℕ) → Option ℕ → Option ℕ
 last_after_set_up (Some response) last = None
 last_after_set_up None last = last
 
-module _ {C : Type 0} (acts : link.Ghosts C) where
+module _ {C : Type 0} (acts : Link.Ghosts C) where
   -- a set up or a transfer that is lost, or has another response
   abbrev pub FailsToSet : FaultyLink C → Datanode → List ℕ → ℕ → Option (List ℕ) → FaultyLink C → Type 0
   FailsToSet a node request least came b = Fails a.inner (λ own c. acts.sets a.inner node request least own c) came b.inner

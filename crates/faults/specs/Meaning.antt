@@ -7,7 +7,7 @@ use Rattle.proto.specs.declared.datanode.Datanode.{Datanode}
 use Rattle.chain.specs.Acts.{Came}
 use Rattle.chain.specs.Meaning.{Seen, SetsUp}
 use Rattle.chain.specs.Meaning as meaning
-use Rattle.chain.specs.declared.link.Link as link
+use Rattle.chain.specs.declared.link.Link as Link
 use Rattle.faults.specs.declared.faulty_link.FaultyLink.{FaultyLink}
 use Rattle.faults.specs.Links.{Spoils, Sets, Puts, Nexts, Transfers}
 
@@ -20,7 +20,7 @@ spoilt request least None came s t p e = nothing_came request least came s t p e
 spoilt request least (Some r) (Some q) s t p e = e
 spoilt request least (Some r) None s t p e = absurd p
 
-module _ {C : Type 0} (acts : link.Ghosts C) (seen : C → Seen) where
+module _ {C : Type 0} (acts : Link.Ghosts C) (seen : C → Seen) where
   pub setting : ((a b : C) (node : Datanode) (request : List ℕ) (least : ℕ) (came : Option (List ℕ)) → acts.sets a node request least came b → SetsUp request least came (seen a) (seen b))
       → (a b : FaultyLink C) (node : Datanode) (request : List ℕ) (least : ℕ) (came : Option (List ℕ)) → Sets acts a node request least came b → SetsUp request least came (seen a.inner) (seen b.inner)
   setting law a b node request least came (inl (d, inl (e, n)), l) = nothing_came request least came (seen a.inner) (seen b.inner) n (ap seen e)

@@ -9,8 +9,8 @@ use Rattle.proto.specs.declared.fixed.Fixed.{Fixed}
 use Rattle.replace.specs.declared.choice.NoChoice.{NoChoice}
 use Rattle.replace.specs.Choice.{choice_of}
 use Rattle.chain.specs.declared.link.Link as Link
-use Rattle.namenode.specs.declared.protocol.NamenodeProtocol as Namenode
-use Rattle.namenode.specs.Entries.{Offer}
+use Rattle.namenode.specs.declared.protocol.NamenodeProtocol as NamenodeProtocol
+use Rattle.namenode.specs.Entries.{Offer, ask_for}
 use Rattle.pipeline.specs.Offers.{node_row, Rows, in_form}
 use Rattle.pipeline.specs.Replies.{Reply}
 use Rattle.pipeline.specs.Channels.{ChannelView}
@@ -50,9 +50,9 @@ module _ {L : Type 0} (acts : Link.Ghosts L) (nodes : List Datanode) (s t : Chan
     pub within : Within nodes r
     within = within_of header (choice_of nodes old) (few offer nodes f rows) of_nodes
 
-    pub adds : {N : Type 0} (asks : Namenode.Ghosts N) (block : ExtendedBlock) (client : Fixed 64) (left gone table : List Datanode) (n m : N)
+    pub adds : {N : Type 0} (asks : NamenodeProtocol.Ghosts N) (block : ExtendedBlock) (client : Fixed 64) (left gone table : List Datanode) (n m : N)
         → Shows block offer.token client header
-        → asks.lists n (record { size = block.num_bytes; survivors = left; failed = gone }) (Some offer) m
+        → asks.lists n (ask_for block.num_bytes left gone) (Some offer) m
         → Adds acts asks block client old left gone table nodes s n r t m
     adds asks block client left gone table n m shows asked = record {
       came = Some offer;

@@ -9,8 +9,8 @@ use Rattle.replace.specs.declared.choice.NoChoice.{NoChoice}
 use Rattle.replace.specs.declared.choice.NoChoice.TheVariants.{NewNode, Source}
 use Rattle.replace.specs.Choice.{choice_of}
 use Rattle.chain.specs.declared.link.Link as Link
-use Rattle.namenode.specs.declared.protocol.NamenodeProtocol as Namenode
-use Rattle.namenode.specs.Entries.{Offer}
+use Rattle.namenode.specs.declared.protocol.NamenodeProtocol as NamenodeProtocol
+use Rattle.namenode.specs.Entries.{Offer, ask_for}
 use Rattle.pipeline.specs.declared.add_datanode.NoDatanode.{NoDatanode}
 use Rattle.pipeline.specs.declared.add_datanode.NoDatanode.TheVariants as no
 use Rattle.pipeline.specs.declared.reply.ReplyError.{ReplyError}
@@ -86,15 +86,14 @@ module _ {L : Type 0} (acts : Link.Ghosts L) where
   Offers block client old table (Some offer) nodes s r t =
       Listed block client old offer (in_form offer) nodes s r t
 
-module _ {L N : Type 0} (acts : Link.Ghosts L) (asks : Namenode.Ghosts N) where
+module _ {L N : Type 0} (acts : Link.Ghosts L) (asks : NamenodeProtocol.Ghosts N) where
   -- the namenode was asked once, from n to m, and what followed is what came; the table has `nodes` in place of
   -- what it had
   pub record Adds (block : ExtendedBlock) (client : Fixed 64)
       (old left gone table nodes : List Datanode)
       (s : ChannelView L) (n : N) (r : Added) (t : ChannelView L) (m : N) : Type 0 where
     pub came : Option Offer
-    pub asked : asks.lists n (record { size = block.num_bytes; survivors = left; failed = gone })
-        came m
+    pub asked : asks.lists n (ask_for block.num_bytes left gone) came m
     pub offers : Offers acts block client old table came nodes s r t
 
 -- the places of a datanode that was added, in a list of eight at most

@@ -14,7 +14,7 @@ use Rattle.pipeline.specs.declared.set_up.SetupRequest.{SetupRequest}
 use Rattle.pipeline.specs.Channels.{ChannelView}
 use Rattle.pipeline.specs.Replies.{Reply, Asked}
 
--- the request for a pipeline of these datanodes, in their order, with these settings
+-- the request for a pipeline of these datanodes, in their order, as it is wanted
 pub record Requests (wanted : SetupRequest) (pipeline : List Datanode)
     (message : WriteBlock) : Type 0 where
   pub header : message.header ≡ wanted.header
@@ -30,7 +30,7 @@ pub record Requests (wanted : SetupRequest) (pipeline : List Datanode)
 abbrev pub octets_of : WriteBlock → List ℕ
 octets_of message = framed 80 (encode_all (write_fields message))
 
--- such settings
+-- what is wanted of a set up
 pub record Wants (block : ExtendedBlock) (token : Token) (client : Fixed 64) (stage : Stage)
     (least most latest chunk : ℕ) (wanted : SetupRequest) : Type 0 where
   pub of_block : wanted.header.block ≡ block

@@ -3,7 +3,7 @@ use Rattle.std.proofs.Common.{◌≡◌, ℕ, zero, suc, ◌+◌, ◌<◌, List,
 use Rattle.std.proofs.lemmas.List.{take_more, map-append, length-map, drop-drop}
 use Rattle.chain.specs.declared.link.Link as Link
 use Rattle.chain.specs.Meaning.{Seen}
-use Rattle.namenode.specs.declared.protocol.NamenodeProtocol as Namenode
+use Rattle.namenode.specs.declared.protocol.NamenodeProtocol as NamenodeProtocol
 use Rattle.namenode.specs.Entries.{Entry}
 use Rattle.runs.specs.declared.command.Command.{Command}
 use Rattle.runs.specs.declared.command.Outcome.{Outcome}
@@ -22,7 +22,7 @@ filled zero (x ∷ xs) ys y e some = absurd (omega (arith, e))
 filled (suc n) [] ys y e some = absurd (omega (arith, e))
 filled (suc n) (x ∷ xs) ys y e some = ap (λ (l : List _). x ∷ l) (filled n xs ys y (omega (arith, e)) some)
 
-module _ {C N : Type 0} (acts : Link.Ghosts C) (asks : Namenode.Ghosts N) (seen : C → Seen) where
+module _ {C N : Type 0} (acts : Link.Ghosts C) (asks : NamenodeProtocol.Ghosts N) (seen : C → Seen) where
   pub joined : (cs ds : List Command) (os us : List Outcome) (p q r : Point C N) → Run acts asks seen cs p os q → Run acts asks seen ds q us r → Run acts asks seen (cs ++ ds) p (os ++ us) r
   joined _ ds _ us p _ r here next = next
   joined _ ds _ us p q r (then {c = c} {cs = cs} {o = o} {os = os} m step run) next = then m step (joined cs ds os us m q r run next)

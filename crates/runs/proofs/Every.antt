@@ -2,7 +2,7 @@
 use Rattle.std.proofs.Common.{◌≡◌, ℕ, List, length, None, Some, Ok, Err, Option, Result, ◌≢◌, ◌⊎◌, inl, inr, ⊎_elim, sym, refl, ◌∙◌, subst}
 use Rattle.chain.specs.declared.link.Link as Link
 use Rattle.chain.specs.Meaning.{Seen}
-use Rattle.namenode.specs.declared.protocol.NamenodeProtocol as Namenode
+use Rattle.namenode.specs.declared.protocol.NamenodeProtocol as NamenodeProtocol
 use Rattle.namenode.specs.Entries.{Entry}
 use Rattle.pipeline.specs.Channels.{channel_over}
 use Rattle.writer.specs.declared.admit.Call.{Call}
@@ -59,7 +59,7 @@ wrote_chain : (h : History) (bytes : List ℕ) (r : Result Written Refusal) → 
 wrote_chain h bytes (Ok w) = refl
 wrote_chain h bytes (Err e) = refl
 
-module _ {C N : Type 0} (acts : Link.Ghosts C) (asks : Namenode.Ghosts N) (seen : C → Seen) (entry : N → Entry)
+module _ {C N : Type 0} (acts : Link.Ghosts C) (asks : NamenodeProtocol.Ghosts N) (seen : C → Seen) (entry : N → Entry)
     (chains : MeansChain acts seen) (names : MeansNamenode asks entry) where
   record Invariant (p : Point C N) : Type 0 where
     holds : Holds p.history (view_of p.writer) p.store (seen p.link)

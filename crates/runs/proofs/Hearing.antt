@@ -24,7 +24,7 @@ use Rattle.writer.specs.declared.state.kind.State.{State}
 use Rattle.writer.specs.declared.state.kind.State.TheVariants.{Streaming, Finishing, Broken, Complete, Closed}
 use Rattle.writer.specs.Admits.{refusal_for, by_room, by_state}
 use Rattle.writer.specs.Calls.{Listener}
-use Rattle.writer.specs.Heeding.{awaits, on_packet, on_verdict, on_heard, answer_of, after, Heeds}
+use Rattle.writer.specs.Heeding.{awaits, on_packet, on_verdict, on_heard, answer_of, view_after, Heeds}
 use Rattle.writer.specs.Refusals.{or_else}
 use Rattle.writer.specs.States.{ended, listens}
 use Rattle.writer.specs.Views.{View}
@@ -38,11 +38,11 @@ use Rattle.runs.proofs.States.{breaks, closes, stays}
 module _ (h : History) (v : View) (store : List ℕ) (x y : Seen) (whole : listens v.state ≡ true) (fit : Fit v (length store)) (holds : Holds h v store x) where
   -- what the writer decides on fits what the pipeline did
   abbrev Follows : Decision → Type 0
-  Follows d = Keeps (heard h x.pending y.pending (answer_of d)) v (after v d) store y
+  Follows d = Keeps (heard h x.pending y.pending (answer_of d)) v (view_after v d) store y
 
   -- the pipeline did nothing, and no packet's number is answered
-  quiet : (d : Decision) → y ≡ x → numbers (answer_of d) ≡ [] → Keeps h v (after v d) store x → Follows d
-  quiet d = same h v store x fit holds y (answer_of d) (after v d)
+  quiet : (d : Decision) → y ≡ x → numbers (answer_of d) ≡ [] → Keeps h v (view_after v d) store x → Follows d
+  quiet d = same h v store x fit holds y (answer_of d) (view_after v d)
 
   unawaited : (n : ℕ) → awaits v n ≡ false → 0 < v.count → n ≢ v.first
   unawaited n e some is = false≢true (sym e ∙ and_from _ _ (lt-ltb 0 v.count some) (eq-eqb n v.first is))

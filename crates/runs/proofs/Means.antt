@@ -4,7 +4,7 @@ use Rattle.proto.specs.declared.datanode.Datanode.{Datanode}
 use Rattle.chain.specs.declared.link.Link as Link
 use Rattle.chain.specs.Acts.{Came}
 use Rattle.chain.specs.Meaning.{Seen, SetsUp, Puts, Nexts}
-use Rattle.namenode.specs.declared.protocol.NamenodeProtocol as Namenode
+use Rattle.namenode.specs.declared.protocol.NamenodeProtocol as NamenodeProtocol
 use Rattle.namenode.specs.Entries.{Entry, Ask, Offer, Updates}
 
 -- each act of a link has the meaning of a chain
@@ -15,7 +15,7 @@ pub record MeansChain {C : Type 0} (acts : Link.Ghosts C) (seen : C → Seen) : 
   pub transferring : (a b : C) (node : Datanode) (request : List ℕ) (came : Option (List ℕ)) → acts.transfers a node request came b → seen b ≡ seen a
 
 -- only an accepted update changes a namenode's entry
-pub record MeansNamenode {N : Type 0} (asks : Namenode.Ghosts N) (entry : N → Entry) : Type 0 where
+pub record MeansNamenode {N : Type 0} (asks : NamenodeProtocol.Ghosts N) (entry : N → Entry) : Type 0 where
   pub listing : (a b : N) (asked : Ask) (came : Option Offer) → asks.lists a asked came b → entry b ≡ entry a
   pub stamping : (a b : N) (size : ℕ) (came : Option (ℕ × List ℕ)) → asks.stamps a size came b → entry b ≡ entry a
   pub updating : (a b : N) (new : Entry) (accepted : Bool) → asks.updates a new accepted b → Updates new accepted (entry a) (entry b)

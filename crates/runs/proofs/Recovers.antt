@@ -11,7 +11,7 @@ use Rattle.replace.specs.declared.choice.NoChoice.{NoChoice}
 use Rattle.replace.specs.Choice.{choice_of}
 use Rattle.chain.specs.declared.link.Link as Link
 use Rattle.chain.specs.Meaning.{Seen, SetsUp}
-use Rattle.namenode.specs.declared.protocol.NamenodeProtocol as Namenode
+use Rattle.namenode.specs.declared.protocol.NamenodeProtocol as NamenodeProtocol
 use Rattle.namenode.specs.Entries.{Entry, Offer, Updates, entry_for}
 use Rattle.pipeline.specs.Adding.{Added, Copies, Listed, Offers}
 use Rattle.pipeline.specs.Channels.{ChannelView}
@@ -26,7 +26,7 @@ use Rattle.writer.specs.declared.refusal.Refusal.{Refusal}
 use Rattle.writer.specs.declared.refusal.Refusal.TheVariants as refusal
 use Rattle.writer.specs.declared.state.kind.State.TheVariants.{Closed}
 use Rattle.writer.specs.Calls.{Site, UnlessRefused}
-use Rattle.writer.specs.Recovering.{Choice, ChoosesIf, wants, beyond, Ended, AfterUpdate, Resumes, AfterSetUp, Builds, AfterStamp, AfterChoice, IfSurvived, Recovers}
+use Rattle.writer.specs.Recovering.{Choice, ChoosesIf, needs_datanode, beyond, ClosedBy, AfterUpdate, Resumes, AfterSetUp, Builds, AfterStamp, AfterChoice, IfSurvived, Recovers}
 use Rattle.writer.specs.Stages.{TokenAs, StampAs, built_on, recovered, restored}
 use Rattle.writer.specs.States.{IsBrokenState}
 use Rattle.writer.specs.Views.{View, least_of, held_in, with_state}
@@ -60,7 +60,7 @@ stamped_least (Some given) least q is = with_token _ is
     with_token true (token, (held, e)) = let z : q ≡ (record { least = least; stamp = given.0 }, token) = cc in ap (λ (p : Stamped × Token). p.0.least) z
     with_token false e = absurd (ok_err q _ e)
 
-module _ {C N : Type 0} (acts : Link.Ghosts C) (asks : Namenode.Ghosts N) (seen : C → Seen) (entry : N → Entry)
+module _ {C N : Type 0} (acts : Link.Ghosts C) (asks : NamenodeProtocol.Ghosts N) (seen : C → Seen) (entry : N → Entry)
     (chains : MeansChain acts seen) (names : MeansNamenode asks entry) where
   -- the choice of a pipeline changes nothing that the far end keeps or has pending
   copies_same : (header : ClientOperationHeader) (nodes : List Datanode) (places : Result (ℕ × ℕ) NoChoice) (s t : ChannelView C) (r : Added) → Copies acts header nodes places s r t → seen t.link ≡ seen s.link
@@ -90,7 +90,7 @@ module _ {C N : Type 0} (acts : Link.Ghosts C) (asks : Namenode.Ghosts N) (seen 
     Kept set z = Rebuilt (rebuilt h set) v z.view store (seen z.channel.link) (entry z.namenode)
 
     -- refused at some stage, where the far end keeps what it kept
-    ended_keeps : (set : Option (List Datanode)) (why : Refusal) (s : Site C N) → s.view ≡ v → (seen s.channel.link).kept ≡ x.kept → Ended acts asks why s r t → Kept set t
+    ended_keeps : (set : Option (List Datanode)) (why : Refusal) (s : Site C N) → s.view ≡ v → (seen s.channel.link).kept ≡ x.kept → ClosedBy acts asks why s r t → Kept set t
     ended_keeps set why s was same d =
         let closed = shut h v store x (seen s.channel.link) holds same set (entry s.namenode) in
         subst (Kept set) (sym d.1)
@@ -166,7 +166,7 @@ module _ {C N : Type 0} (acts : Link.Ghosts C) (asks : Namenode.Ghosts N) (seen 
         → (d : IfSurvived acts asks o time (at frame channel n) r t) → Kept (if_survived acts asks time r t o (at frame channel n) d) t
     survived_keeps (Some why) frame channel n same d = ended_keeps None why (at frame channel n) refl (ap (λ (z : Seen). z.kept) same) d
     survived_keeps None frame channel n same d =
-        chosen_keeps d.choice d.chain frame d.channel d.namenode (chooses_same (wants v) v channel d.channel n d.namenode d.choice d.chain d.chooses ∙ same) d.follows
+        chosen_keeps d.choice d.chain frame d.channel d.namenode (chooses_same (needs_datanode v) v channel d.channel n d.namenode d.choice d.chain d.chooses ∙ same) d.follows
 
   -- the step of a run
   pub recovered_keeps : (h : History) (o : Option Refusal) (time : ℕ) (s t : Site C N) (r : Result Recovered Refusal)

@@ -3,7 +3,7 @@ use Rattle.std.specs.Prelude.{ℕ, List, Some, None, Ok, Err, Option, Result}
 use Rattle.proto.specs.declared.datanode.Datanode.{Datanode}
 use Rattle.proto.specs.declared.token.Token.{Token}
 use Rattle.chain.specs.declared.link.Link as Link
-use Rattle.namenode.specs.declared.protocol.NamenodeProtocol as Namenode
+use Rattle.namenode.specs.declared.protocol.NamenodeProtocol as NamenodeProtocol
 use Rattle.writer.specs.declared.recover.Recovered.{Recovered}
 use Rattle.writer.specs.declared.recovery.Stamped.{Stamped}
 use Rattle.writer.specs.declared.refusal.Refusal.{Refusal}
@@ -14,7 +14,7 @@ abbrev pub if_answered : Option (List ℕ) → List Datanode → Option (List Da
 if_answered (Some response) chain = Some chain
 if_answered None chain = None
 
-module _ {L N : Type 0} (acts : Link.Ghosts L) (asks : Namenode.Ghosts N) (time : ℕ)
+module _ {L N : Type 0} (acts : Link.Ghosts L) (asks : NamenodeProtocol.Ghosts N) (time : ℕ)
     (r : Result Recovered Refusal) (t : Site L N) where
   abbrev pub after_stamp : (x : Result (Stamped × Token) Refusal) (choice : Option (ℕ × ℕ))
       (chain : List Datanode) (s : Site L N)

@@ -3,7 +3,7 @@
 use Rattle.std.specs.Prelude.{◌≡◌, min, List, ◌++◌, length, map, take, drop, Some, Option}
 use Rattle.chain.specs.declared.link.Link as Link
 use Rattle.chain.specs.Meaning.{Seen}
-use Rattle.namenode.specs.declared.protocol.NamenodeProtocol as Namenode
+use Rattle.namenode.specs.declared.protocol.NamenodeProtocol as NamenodeProtocol
 use Rattle.namenode.specs.Entries.{Entry}
 use Rattle.writer.specs.declared.opening.Opening.{Opening}
 use Rattle.runs.specs.declared.command.Command.{Command}
@@ -13,7 +13,7 @@ use Rattle.runs.specs.History.{History}
 use Rattle.runs.specs.Law.{Law}
 use Rattle.runs.specs.Runs.{Point, Run}
 
-module _ {C N : Type 0} (acts : Link.Ghosts C) (asks : Namenode.Ghosts N) (seen : C → Seen)
+module _ {C N : Type 0} (acts : Link.Ghosts C) (asks : NamenodeProtocol.Ghosts N) (seen : C → Seen)
     (entry : N → Entry) where
   -- `after` is what is left, by what has happened then
   pub record Made (before : Point C N) (commands : List Command) (places : List (Option Outcome))

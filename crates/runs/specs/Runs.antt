@@ -4,7 +4,7 @@ use Rattle.std.specs.Borrow.{Bor}
 use Rattle.std.specs.Prelude.{ℕ, List, [], ◌∷◌, length, Result, ◌≢◌}
 use Rattle.chain.specs.declared.link.Link as Link
 use Rattle.chain.specs.Meaning.{Seen}
-use Rattle.namenode.specs.declared.protocol.NamenodeProtocol as Namenode
+use Rattle.namenode.specs.declared.protocol.NamenodeProtocol as NamenodeProtocol
 use Rattle.pipeline.specs.Channels.{channel_over}
 use Rattle.writer.specs.declared.admit.Call.TheVariants as call
 use Rattle.writer.specs.declared.beat.Beat.{Beat}
@@ -46,7 +46,7 @@ pub data Lends : List ℕ → List ℕ → List ℕ → List ℕ → Type 0 wher
   other : {store before after : List ℕ} → (length before ≢ length store)
       → Lends store store before after
 
-module _ {C N : Type 0} (acts : Link.Ghosts C) (asks : Namenode.Ghosts N) (seen : C → Seen) where
+module _ {C N : Type 0} (acts : Link.Ghosts C) (asks : NamenodeProtocol.Ghosts N) (seen : C → Seen) where
   -- a call, from one point to the next, with any buffers
   pub data Step : Command → Point C N → Outcome → Point C N → Type 0 where
     writes : {q : Point C N} (bytes : Bor (List ℕ))

@@ -38,13 +38,13 @@ is_none_else false r h = refl
 pub store_fits : (o : Opening) (l : Lengths) → by_buffers o l ≡ None → 3 * capacity_in o ≤ l.store
 store_fits o l h = leb-true _ _ (is_none (leb (3 * capacity_in o) l.store) _ (Some refusal.Store) refusal.Store refl h).0
 
-pub record Counted (o : Opening) : Type 0 where
+pub record CountsFit (o : Opening) : Type 0 where
   pub some : 1 ≤ length o.infos.now
   pub few : length o.infos.now ≤ 8
   pub names : length o.storage_ids.now ≡ length o.infos.now
   pub types : length o.storage_types.now ≡ length o.infos.now
 
-pub counts_fit : (o : Opening) → by_count o ≡ None → Counted o
+pub counts_fit : (o : Opening) → by_count o ≡ None → CountsFit o
 counts_fit o h =
     let n = length o.infos.now in
     let b = (is_none (leb 1 n && (leb n 8 && (eqb (length o.storage_ids.now) n && eqb (length o.storage_types.now) n))) None (Some refusal.Nodes) refusal.Nodes refl h).0 in

@@ -55,13 +55,13 @@ answer_of (decision.Close r) = Err r
 answer_of (decision.Confirm n) = Ok (heeded.Confirmed n)
 answer_of (decision.Complete n) = Ok (heeded.Complete n)
 
-abbrev pub after : View → Decision → View
-after v decision.Wait = v
-after v decision.Beat = v
-after v (decision.Break why) = broken_by why v
-after v (decision.Close r) = with_state Closed v
-after v (decision.Confirm n) = without_first v
-after v (decision.Complete n) = with_state Complete (without_first v)
+abbrev pub view_after : View → Decision → View
+view_after v decision.Wait = v
+view_after v decision.Beat = v
+view_after v (decision.Break why) = broken_by why v
+view_after v (decision.Close r) = with_state Closed v
+view_after v (decision.Confirm n) = without_first v
+view_after v (decision.Complete n) = with_state Complete (without_first v)
 
 -- the link was asked once; result, writer and buffer are what came of it
 pub record Heeds {L : Type 0} (acts : Link.Ghosts L) (s : Listener L) (r : Result Heeded Refusal)
@@ -69,5 +69,5 @@ pub record Heeds {L : Type 0} (acts : Link.Ghosts L) (s : Listener L) (r : Resul
   pub came : Came
   pub acted : acts.nexts s.link came t.link
   pub result : r ≡ answer_of (decided s.view (heard_in came))
-  pub writer : t.view ≡ after s.view (decided s.view (heard_in came))
+  pub writer : t.view ≡ view_after s.view (decided s.view (heard_in came))
   pub answer : t.answer ≡ answer_over came s.answer

@@ -5,7 +5,7 @@ use Rattle.proto.specs.declared.datanode.Datanode.{Datanode}
 use Rattle.proto.specs.declared.token.Token.{Token}
 use Rattle.replace.specs.Decision.{should_replace}
 use Rattle.chain.specs.declared.link.Link as Link
-use Rattle.namenode.specs.declared.protocol.NamenodeProtocol as Namenode
+use Rattle.namenode.specs.declared.protocol.NamenodeProtocol as NamenodeProtocol
 use Rattle.pipeline.specs.declared.add_datanode.NoDatanode.{NoDatanode}
 use Rattle.pipeline.specs.Channels.{ChannelView}
 use Rattle.pipeline.specs.Adding.{Added, Adds}
@@ -19,7 +19,7 @@ use Rattle.writer.specs.declared.refusal.Refusal.TheVariants as refusal
 use Rattle.writer.specs.declared.state.kind.State.TheVariants.{Closed}
 use Rattle.writer.specs.Calls.{Site}
 use Rattle.writer.specs.Closing.{record_of}
-use Rattle.writer.specs.Stages.{Stamps, SetsUpOn, ReplaysOn, UpdatesOn}
+use Rattle.writer.specs.Stages.{StampsOn, SetsUpOn, ReplaysOn, UpdatesOn}
 use Rattle.writer.specs.States.{failed_on}
 use Rattle.writer.specs.Views.{View, least_of, with_state}
 
@@ -42,8 +42,8 @@ Ready (Some refusal) v left gone = Unit {0}
 Ready None v left gone = (left ≡ left_of v) × (gone ≡ gone_of v) × (1 ≤ length left)
 
 -- the policy, by those that are left and the length that the block was opened with
-abbrev pub wants : View → Bool
-wants v =
+abbrev pub needs_datanode : View → Bool
+needs_datanode v =
     should_replace v.terms.replace.policy v.terms.replication (length (left_of v))
     v.terms.initial_len
 
@@ -61,7 +61,7 @@ abbrev pub chain_on : Added → List Datanode → List Datanode → List Datanod
 chain_on (Ok places) left list = list
 chain_on (Err why) left list = left
 
-module _ {L N : Type 0} (acts : Link.Ghosts L) (asks : Namenode.Ghosts N) where
+module _ {L N : Type 0} (acts : Link.Ghosts L) (asks : NamenodeProtocol.Ghosts N) where
   -- a datanode added, or why not
   pub record Replaces (v : View) (s : ChannelView L) (n : N) (r : Choice) (chain : List Datanode)
       (t : ChannelView L) (m : N) : Type 0 where
@@ -80,18 +80,17 @@ module _ {L N : Type 0} (acts : Link.Ghosts L) (asks : Namenode.Ghosts N) where
   ChoosesIf false v s n r chain t m = (r ≡ Ok None) × (chain ≡ left_of v) × (t ≡ s) × (m ≡ n)
 
   -- refused at some stage: the writer is closed, and what the stages before have left stays
-  abbrev pub Ended : Refusal → Site L N → Result Recovered Refusal → Site L N → Type 0
-  Ended why s r t = (r ≡ Err why) × (t ≡ record s { view = with_state Closed s.view })
+  abbrev pub ClosedBy : Refusal → Site L N → Result Recovered Refusal → Site L N → Type 0
+  ClosedBy why s r t = (r ≡ Err why) × (t ≡ record s { view = with_state Closed s.view })
 
   abbrev pub AfterUpdate : Result Recovered Refusal → Site L N → Result Recovered Refusal → Site L N
       → Type 0
   AfterUpdate (Ok x) s r t = (r ≡ Ok x) × (t ≡ s)
-  AfterUpdate (Err why) s r t = Ended why s r t
+  AfterUpdate (Err why) s r t = ClosedBy why s r t
 
   -- set up: all held packets are put again, and the namenode is told
   pub record Resumes (q : SetUp) (token : Token) (choice : Option (ℕ × ℕ)) (chain : List Datanode)
-      (time : ℕ)
-      (s : Site L N) (r : Result Recovered Refusal) (t : Site L N) : Type 0 where
+      (time : ℕ) (s : Site L N) (r : Result Recovered Refusal) (t : Site L N) : Type 0 where
     pub replayed : Replayed
     pub frame : List ℕ
     pub link : L
@@ -112,12 +111,11 @@ module _ {L N : Type 0} (acts : Link.Ghosts L) (asks : Namenode.Ghosts N) where
   abbrev pub AfterSetUp : Result SetUp Refusal → Token → Option (ℕ × ℕ) → List Datanode → ℕ
       → Site L N → Result Recovered Refusal → Site L N → Type 0
   AfterSetUp (Ok q) token choice chain time s r t = Resumes q token choice chain time s r t
-  AfterSetUp (Err why) token choice chain time s r t = Ended why s r t
+  AfterSetUp (Err why) token choice chain time s r t = ClosedBy why s r t
 
   -- stamped: the pipeline is set up
   pub record Builds (q : Stamped) (token : Token) (choice : Option (ℕ × ℕ)) (chain : List Datanode)
-      (time : ℕ)
-      (s : Site L N) (r : Result Recovered Refusal) (t : Site L N) : Type 0 where
+      (time : ℕ) (s : Site L N) (r : Result Recovered Refusal) (t : Site L N) : Type 0 where
     pub set_up : Result SetUp Refusal
     pub channel : ChannelView L
     pub sets_up : SetsUpOn acts s.view token chain q s.channel set_up channel
@@ -126,36 +124,36 @@ module _ {L N : Type 0} (acts : Link.Ghosts L) (asks : Namenode.Ghosts N) where
   abbrev pub AfterStamp : Result (Stamped × Token) Refusal → Option (ℕ × ℕ) → List Datanode → ℕ
       → Site L N → Result Recovered Refusal → Site L N → Type 0
   AfterStamp (Ok q) choice chain time s r t = Builds q.0 q.1 choice chain time s r t
-  AfterStamp (Err why) choice chain time s r t = Ended why s r t
+  AfterStamp (Err why) choice chain time s r t = ClosedBy why s r t
 
   -- counted: the namenode is asked for a stamp
-  pub record AsksStamp (choice : Option (ℕ × ℕ)) (chain : List Datanode) (time : ℕ)
+  pub record RebuildsOn (choice : Option (ℕ × ℕ)) (chain : List Datanode) (time : ℕ)
       (s : Site L N) (r : Result Recovered Refusal) (t : Site L N) : Type 0 where
     pub stamped : Result (Stamped × Token) Refusal
     pub namenode : N
-    pub stamps : Stamps asks (least_of s.view) s.view.len s.namenode stamped namenode
+    pub stamps : StampsOn asks (least_of s.view) s.view.len s.namenode stamped namenode
     pub follows : AfterStamp stamped choice chain time (record s { namenode = namenode }) r t
 
   abbrev pub AfterChoice : Choice → List Datanode → ℕ → Site L N → Result Recovered Refusal
       → Site L N → Type 0
-  AfterChoice (Ok choice) chain time s r t = AsksStamp choice chain time s r t
-  AfterChoice (Err why) chain time s r t = Ended (refusal.Replacement why) s r t
+  AfterChoice (Ok choice) chain time s r t = RebuildsOn choice chain time s r t
+  AfterChoice (Err why) chain time s r t = ClosedBy (refusal.Replacement why) s r t
 
   -- a pipeline is chosen
-  pub record Rebuilds (time : ℕ) (s : Site L N) (r : Result Recovered Refusal)
+  pub record ChoosesAndRebuilds (time : ℕ) (s : Site L N) (r : Result Recovered Refusal)
       (t : Site L N) : Type 0 where
     pub choice : Choice
     pub chain : List Datanode
     pub channel : ChannelView L
     pub namenode : N
-    pub chooses : ChoosesIf (wants s.view) s.view s.channel s.namenode choice chain channel namenode
+    pub chooses : ChoosesIf (needs_datanode s.view) s.view s.channel s.namenode choice chain channel namenode
     pub follows : AfterChoice choice chain time
         (record s { channel = channel; namenode = namenode }) r t
 
   abbrev pub IfSurvived : Option Refusal → ℕ → Site L N → Result Recovered Refusal → Site L N
       → Type 0
-  IfSurvived (Some why) time s r t = Ended why s r t
-  IfSurvived None time s r t = Rebuilds time s r t
+  IfSurvived (Some why) time s r t = ClosedBy why s r t
+  IfSurvived None time s r t = ChoosesAndRebuilds time s r t
 
   abbrev pub Recovers : ℕ → Site L N → Result Recovered Refusal → Site L N → Type 0
   Recovers time s r t = IfSurvived (beyond s.view) time s r t

@@ -1,4 +1,4 @@
--- The four states of a recovery, and what each step from one to the next came to. Assumes nothing.
+-- The stages of a recovery (counted, stamped, set up, replayed), and what came of the way from each to the next. Assumes nothing.
 use Rattle.std.specs.Prelude.{◌≡◌, ℕ, Bool, true, false, if◌then◌else◌, List, Some, None, Ok, Err, Option, Result}
 use Rattle.proto.specs.declared.datanode.Datanode.{Datanode}
 use Rattle.proto.specs.declared.token.Token.{Token}
@@ -6,7 +6,7 @@ use Rattle.proto.specs.Messages.{octets_in}
 use Rattle.proto.specs.Rules.{is_token}
 use Rattle.request.specs.declared.stage.Stage.TheVariants.{SetupStreamingRecovery}
 use Rattle.chain.specs.declared.link.Link as Link
-use Rattle.namenode.specs.declared.protocol.NamenodeProtocol as Namenode
+use Rattle.namenode.specs.declared.protocol.NamenodeProtocol as NamenodeProtocol
 use Rattle.namenode.specs.Entries.{entry_for}
 use Rattle.pipeline.specs.declared.set_up.SetupRequest.{SetupRequest}
 use Rattle.pipeline.specs.Channels.{ChannelView}
@@ -67,9 +67,9 @@ abbrev pub recovered : Replayed → Option (ℕ × ℕ) → Recovered
 recovered q choice =
     record { choice = choice; stamp = q.stamp; replayed = q.replayed; put_lost = is_lost q.lost }
 
-module _ {N : Type 0} (asks : Namenode.Ghosts N) where
+module _ {N : Type 0} (asks : NamenodeProtocol.Ghosts N) where
   -- from counted to stamped
-  pub record Stamps (least size : ℕ) (n : N) (r : Result (Stamped × Token) Refusal)
+  pub record StampsOn (least size : ℕ) (n : N) (r : Result (Stamped × Token) Refusal)
       (m : N) : Type 0 where
     pub came : Option (ℕ × List ℕ)
     pub acted : asks.stamps n size came m

@@ -2,7 +2,7 @@
 ghost use Rattle.std.specs.Prelude.{◌≡◌, ◌+◌, ◌<◌, ◌≤◌, length, take, drop, if◌then◌else◌, is_ok};
 ghost use Rattle.packet.specs.Frame.{octets_of, over};
 ghost use Rattle.writer.specs.declared.cause.Cause.TheVariants.{Put};
-ghost use Rattle.ack.specs.Failures.{IsCounted};
+ghost use Rattle.ack.specs.Failures.{IsTallied};
 ghost use Rattle.writer.specs.Causes.{failed_in};
 ghost use Rattle.writer.specs.Sizes.{Suffice};
 ghost use Rattle.writer.specs.States.{ended, last_ones};
@@ -41,7 +41,7 @@ impl Writer {
     /// Breaks the pipeline.
     pub(crate) fn break_by(&mut self, cause: Cause)
         requires state_value { last_ones self.old.state ≡ (if ended self.old.state then 1 else 0) }
-        requires counted { IsCounted (failed_in cause) }
+        requires tallied { IsTallied (failed_in cause) }
         ensures { view_of self.new ≡ broken_by cause (view_of self.old) }
     {
         let finished = self.state.has_ended();

@@ -2,14 +2,14 @@
 ghost use Rattle.std.specs.Prelude.{◌≡◌, ◌<◌, true};
 ghost use Rattle.ack.specs.declared.ack.Verdict.TheVariants.{Failed};
 ghost use Rattle.ack.specs.declared.tally.FailedNodes.{FailedNodes};
-ghost use Rattle.ack.specs.Failures.{IsCounted};
+ghost use Rattle.ack.specs.Failures.{IsTallied};
 ghost use Rattle.writer.specs.declared.admit.Call.TheVariants as call;
 ghost use Rattle.writer.specs.declared.state.kind.State.TheVariants.{Complete, Closed};
 ghost use Rattle.writer.specs.Admits.{refusal_for, lengths_of};
 ghost use Rattle.writer.specs.Calls.{listener_of, UnlessRefused};
 ghost use Rattle.writer.specs.States.{listens, ended};
 ghost use Rattle.writer.specs.Views.{view_of, with_state, without_first};
-ghost use Rattle.writer.specs.Heeding.{awaits, if_last, decided, answer_of, after, Heeds};
+ghost use Rattle.writer.specs.Heeding.{awaits, if_last, decided, answer_of, view_after, Heeds};
 
 use crate::admit::{Call, Lengths};
 use crate::cause::Cause;
@@ -131,10 +131,10 @@ impl Writer {
     // Does what was decided.
     fn hear(&mut self, heard: Result<Option<Verdict>, AskError>) -> Result<Heeded, Refusal>
         requires listens { listens self.old.state ≡ true }
-        requires counted { (f : FailedNodes) → heard ≡ Ok (Some (Failed f)) → IsCounted f }
+        requires tallied { (f : FailedNodes) → heard ≡ Ok (Some (Failed f)) → IsTallied f }
         ensures result { result ≡ answer_of (decided (view_of self.old) heard) }
         ensures view { let v = view_of self.old in
-            view_of self.new ≡ after v (decided v heard) }
+            view_of self.new ≡ view_after v (decided v heard) }
     {
         match self.decide(heard) {
             Decision::Wait => Ok(Heeded::Nothing),

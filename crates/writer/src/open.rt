@@ -6,7 +6,7 @@ ghost use Rattle.writer.specs.declared.state.kind.State.TheVariants.{Closed};
 ghost use Rattle.writer.specs.declared.admit.Lengths.{Lengths};
 ghost use Rattle.writer.specs.Admits.{lengths_of};
 ghost use Rattle.writer.specs.Opening.{open_refusal, stage_for, TermsFor, Fresh, Shut, Opens, SetsUpFor};
-ghost use Rattle.ack.specs.Failures.{IsCounted};
+ghost use Rattle.ack.specs.Failures.{IsTallied};
 ghost use Rattle.writer.specs.Settling.{Fits};
 ghost use Rattle.writer.specs.States.{failed_on};
 ghost use Rattle.writer.specs.Views.{view_of};
@@ -65,7 +65,7 @@ impl Tables {
     fn into_writer(self, terms: Terms, token: Token, state: State, stamp: u64, time: u64) -> Writer
         requires fits { Fits terms }
         requires few { length self.nodes.rows.items ≤ 8 }
-        requires counted { IsCounted (failed_on state) }
+        requires tallied { IsTallied (failed_on state) }
         ensures { view_of result ≡ record {
           terms = terms;
           state = state;

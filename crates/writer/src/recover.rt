@@ -4,7 +4,7 @@ ghost use Rattle.pipeline.specs.Channels.{channel_over, SameLoans};
 ghost use Rattle.writer.specs.declared.admit.Call.TheVariants as call;
 ghost use Rattle.writer.specs.Admits.{refusal_for, lengths_of};
 ghost use Rattle.writer.specs.Calls.{site_of, site_at, UnlessRefused};
-ghost use Rattle.writer.specs.Recovering.{left_of, gone_of, beyond, Resumes, Builds, AsksStamp, Rebuilds, IfSurvived, Recovers};
+ghost use Rattle.writer.specs.Recovering.{left_of, gone_of, beyond, Resumes, Builds, RebuildsOn, ChoosesAndRebuilds, IfSurvived, Recovers};
 ghost use Rattle.writer.specs.Sizes.{Suffice};
 ghost use Rattle.writer.specs.States.{IsBrokenState};
 ghost use Rattle.writer.specs.Views.{view_of, least_of};
@@ -106,7 +106,7 @@ impl Writer {
         requires buffers { Suffice self.old.terms store.now frame.old }
         requires some_left { 1 ≤ length self.old.chosen.rows.items }
         ensures same { SameLoans channel.old channel.new }
-        ensures acts { AsksStamp L.Link N.NamenodeProtocol choice
+        ensures acts { RebuildsOn L.Link N.NamenodeProtocol choice
             self.old.chosen.rows.items time
             (site_at self.old store.now frame.old channel.old namenode.old) result
             (site_at self.new store.now frame.new channel.new namenode.new) }
@@ -135,7 +135,7 @@ impl Writer {
         requires gone { self.old.gone.rows.items ≡ gone_of (view_of self.old) }
         requires some_left { 1 ≤ length self.old.chosen.rows.items }
         ensures same { SameLoans channel.old channel.new }
-        ensures acts { Rebuilds L.Link N.NamenodeProtocol time
+        ensures acts { ChoosesAndRebuilds L.Link N.NamenodeProtocol time
             (site_at self.old store.now frame.old channel.old namenode.old) result
             (site_at self.new store.now frame.new channel.new namenode.new) }
     {
@@ -167,7 +167,7 @@ impl Writer {
         }
     }
 
-    /// Rebuilds a broken pipeline, and puts all held packets again.
+    /// ChoosesAndRebuilds a broken pipeline, and puts all held packets again.
     pub fn recover<L: Link, N: NamenodeProtocol>(
         &mut self,
         link: &mut L,
@@ -180,9 +180,9 @@ impl Writer {
     ) -> Result<Recovered, Refusal>
         ensures { let lengths = lengths_of store.now frame.old request.old answer.old in
             let lent = channel_over link.entry.now request.old answer.old in
-            let left = channel_over link.exit.now request.new answer.new in
+            let given_back = channel_over link.exit.now request.new answer.new in
             let before = site_of self.old store.now frame.old lent namenode.old in
-            let after = site_of self.new store.now frame.new left namenode.new in
+            let after = site_of self.new store.now frame.new given_back namenode.new in
             UnlessRefused (refusal_for (view_of self.old) call.Recover lengths)
             (Recovers L.Link N.NamenodeProtocol time) before result after }
     {

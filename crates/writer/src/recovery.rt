@@ -1,9 +1,9 @@
-//! The states that a recovery passes through. Each is given up for the next, so that none can be left out or done twice: their fields are known
-//! here and in the modules below alone. They hold plain numbers, and the writer with its tables is lent at each step.
+//! The stages that a recovery passes through. Each is given up for the next: they are made and taken apart here and in the modules below
+//! alone, and none can be dropped. They hold plain numbers, and the writer with its tables is lent at each step.
 ghost use Rattle.std.specs.Prelude.{◌≡◌, ◌≤◌, length};
 ghost use Rattle.pipeline.specs.Channels.{channel_view, SameLoans};
 ghost use Rattle.writer.specs.Closing.{record_of};
-ghost use Rattle.writer.specs.Stages.{Stamps, SetsUpOn};
+ghost use Rattle.writer.specs.Stages.{StampsOn, SetsUpOn};
 ghost use Rattle.writer.specs.Views.{view_of, least_of};
 
 use crate::refusal::Refusal;
@@ -75,7 +75,7 @@ impl Counted {
         namenode: &mut N,
         len: u64,
     ) -> Result<(Stamped, Token), Refusal>
-        ensures { Stamps N.NamenodeProtocol self.least len namenode.old result namenode.new }
+        ensures { StampsOn N.NamenodeProtocol self.least len namenode.old result namenode.new }
     {
         let Counted { least } = self;
         let stamp = namenode

@@ -2,7 +2,7 @@
 ghost use Rattle.std.specs.Prelude.{◌≡◌, ℕ, ◌+◌, ◌*◌, ◌^◌, ◌<◌, ◌≤◌, true, vec_len, vec_capacity, slice_index};
 ghost use Rattle.held.specs.Slots.{sizes_of, total};
 ghost use Rattle.writer.specs.Sizes.{capacity, room_at};
-ghost use Rattle.ack.specs.Failures.{IsCounted};
+ghost use Rattle.ack.specs.Failures.{IsTallied};
 ghost use Rattle.writer.specs.States.{ended, last_ones, failed_on};
 
 use crate::cause::Cause;
@@ -47,7 +47,7 @@ pub struct Writer {
     ghost ends: { waiting + filling ≤ len },
     ghost limit: { (len ≤ terms.block_size) × (terms.block_size < 2 ^ 63) },
     ghost done: { ended state ≡ true → filling ≡ 0 },
-    ghost counted: { IsCounted (failed_on state) },
+    ghost tallied: { IsTallied (failed_on state) },
     ghost few: { (vec_len nodes.rows ≤ 8) × (vec_len chosen.rows ≤ 8) },
     ghost widths: { (stamp < 2 ^ 64) × (terms.block_id < 2 ^ 64) },
 }

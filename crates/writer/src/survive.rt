@@ -2,7 +2,7 @@
 ghost use Rattle.std.specs.Prelude.{◌≡◌, ◌≤◌, length, vec_len};
 ghost use Rattle.std.specs.Result.{result_err};
 ghost use Rattle.pipeline.specs.Channels.{channel_view, SameLoans};
-ghost use Rattle.writer.specs.Recovering.{left_of, gone_of, beyond, wants, Replaces, ChoosesIf, Ready};
+ghost use Rattle.writer.specs.Recovering.{left_of, gone_of, beyond, needs_datanode, Replaces, ChoosesIf, Ready};
 ghost use Rattle.writer.specs.States.{failed_on};
 ghost use Rattle.writer.specs.Views.{view_of};
 
@@ -108,7 +108,7 @@ impl Writer {
         requires left { self.old.chosen.rows.items ≡ left_of (view_of self.old) }
         requires gone { self.old.gone.rows.items ≡ gone_of (view_of self.old) }
         requires some_left { 1 ≤ length self.old.chosen.rows.items }
-        ensures acts { ChoosesIf L.Link N.NamenodeProtocol (wants (view_of self.old))
+        ensures acts { ChoosesIf L.Link N.NamenodeProtocol (needs_datanode (view_of self.old))
             (view_of self.old) (channel_view channel.old) namenode.old
             result self.new.chosen.rows.items (channel_view channel.new) namenode.new }
         ensures same { SameLoans channel.old channel.new }

@@ -35,7 +35,7 @@ fn state_on(lost: Option<u64>, finished: bool) -> State
 
 impl Writer {
     // Goes on with the chosen pipeline, row by row in the table, the new stamp and its token.
-    fn resume(&mut self, lost: Option<u64>, stamp: u64, token: Token, time: u64)
+    fn restore(&mut self, lost: Option<u64>, stamp: u64, token: Token, time: u64)
         requires { IsBrokenState self.old.state }
         ensures { view_of self.new
             ≡ restored lost stamp token self.old.chosen.rows.items time (view_of self.old) }
@@ -70,7 +70,7 @@ impl Replayed {
         } = self;
         let told = namenode.update_pipeline(stamp, writer.len, writer.chosen.as_slice());
         told.map_err(|_| Refusal::Update)?;
-        writer.resume(lost, stamp, token, time);
+        writer.restore(lost, stamp, token, time);
         Ok(Recovered {
             choice,
             stamp,

@@ -2,7 +2,7 @@ use Rattle.std.proofs.Common.{Ok, Err, vec_items, ap, ◌∙◌, subst}
 use Rattle.pipeline.specs.Channels.{channel_view}
 use Rattle.writer.specs.declared.state.kind.State.TheVariants.{Closed}
 use Rattle.writer.specs.Calls.{site_of}
-use Rattle.writer.specs.Recovering.{AsksStamp}
+use Rattle.writer.specs.Recovering.{RebuildsOn}
 use Rattle.writer.specs.Views.{View, with_state}
 use Rattle.writer.proofs.Stages.{with_view}
 use Rattle.writer.proofs.state.Writer.choose_and_rebuild.Goals as goal
@@ -20,7 +20,7 @@ returns-in-Ok-clause-acts g c =
       namenode = namenode;
       chooses = c.in-Ok.ensures.acts;
       follows =
-          subst (λ (v : View). AsksStamp g.L.Link g.N.NamenodeProtocol c.in-Ok.choice chain c.args.time (record s { view = v }) c.rebuild.result (site_of c.rebuild.new.self c.args.store.now c.rebuild.new.frame (channel_view c.rebuild.new.channel) c.rebuild.new.namenode))
+          subst (λ (v : View). RebuildsOn g.L.Link g.N.NamenodeProtocol c.in-Ok.choice chain c.args.time (record s { view = v }) c.rebuild.result (site_of c.rebuild.new.self c.args.store.now c.rebuild.new.frame (channel_view c.rebuild.new.channel) c.rebuild.new.namenode))
           c.in-Ok.ensures.view c.rebuild.ensures.acts;
     }
 

@@ -23,7 +23,7 @@ invariant_of-self c =
       ends = omega (arith, w.ends);
       limit = w.limit;
       done = w.done;
-      counted = w.counted;
+      tallied = w.tallied;
       few = w.few;
       widths = w.widths;
     }

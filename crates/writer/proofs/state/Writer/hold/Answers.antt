@@ -25,7 +25,7 @@ invariant_of-self c =
       ends = omega (arith, w.ends);
       limit = w.limit;
       done = (λ d. refl);
-      counted = w.counted;
+      tallied = w.tallied;
       few = w.few;
       widths = w.widths;
     }

@@ -14,4 +14,4 @@ returns-clause-parted c =
     let left = c.split.ensures.left ∙ ap (λ (f : FailedNodes). survivors f.positions c.as_slice.result.now) is ∙ ap (survivors failed.positions) c.as_slice.ensures in
     let gone = c.split.ensures.gone ∙ ap (λ (f : FailedNodes). failed_of f.positions c.as_slice.result.now) is ∙ ap (failed_of failed.positions) c.as_slice.ensures in
     let fewer = ap (λ (f : FailedNodes). f.count) is in
-    (left, gone, omega (arith, ap length left, all_but failed.positions nodes, w.counted, fewer, c.if-failed-count.false, c.len-count.ensures))
+    (left, gone, omega (arith, ap length left, all_but failed.positions nodes, w.tallied, fewer, c.if-failed-count.false, c.len-count.ensures))

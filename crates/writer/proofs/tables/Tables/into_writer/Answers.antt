@@ -17,7 +17,7 @@ invariant_of-result c =
       ends = omega arith;
       limit = (f.initial, f.block);
       done = (λ d. refl);
-      counted = c.requires.counted;
+      tallied = c.requires.tallied;
       few = (omega (arith, s.nodes.rows.ok.0, c.requires.few), omega (arith, s.empty));
       widths = (omega (arith, c.ranges.stamp.fits), f.id);
     }

@@ -24,8 +24,8 @@ abbrev pub ack_size : PipelineAck → ℕ
 ack_size a = reply_count a.replies
 
 -- the tally of those codes
-unfoldable pub held : AckFields → PipelineAck
-held a = record { seqno = a.seqno; replies = record { known = length (known a.codes); failed = failed_nodes a.codes } }
+unfoldable pub ack_of_fields : AckFields → PipelineAck
+ack_of_fields a = record { seqno = a.seqno; replies = record { known = length (known a.codes); failed = failed_nodes a.codes } }
 
 unfoldable pub ack_read : List ℕ → Result PipelineAck DecodeError
-ack_read bs = and_then (ack_of bs) (λ a. Ok (held a))
+ack_read bs = and_then (ack_of bs) (λ a. Ok (ack_of_fields a))

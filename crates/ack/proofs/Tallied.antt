@@ -9,7 +9,7 @@ use Rattle.ack.specs.declared.ack.Verdict.{Verdict}
 use Rattle.ack.specs.declared.ack.Verdict.TheVariants.{Failed, HeartBeat, UnknownSeqno, Packet}
 use Rattle.ack.specs.declared.tally.FailedNodes.{FailedNodes}
 use Rattle.ack.specs.Acks.{AckFields, ack_of}
-use Rattle.ack.specs.Failures.{known, failures, has, failed_nodes, IsCounted}
+use Rattle.ack.specs.Failures.{known, failures, has, failed_nodes, IsTallied}
 use Rattle.ack.specs.Verdicts.{verdict_of, judged, verdict_on}
 
 abbrev marked : List Bool → ℕ
@@ -59,9 +59,9 @@ counted (x ∷ xs) a n =
     let others = counted xs a n in
     omega (arith, both, first, others)
 
-pub failed_counted : (codes : List ℕ) → IsCounted (failed_nodes codes)
+pub failed_tallied : (codes : List ℕ) → IsTallied (failed_nodes codes)
 unfolding failed_nodes
-failed_counted codes = counted (failures 0 (known codes)) 0 8
+failed_tallied codes = counted (failures 0 (known codes)) 0 8
 
 failed_same : (f g : FailedNodes) → ◌≡◌ {A = Result Verdict DecodeError} (Ok (Failed g)) (Ok (Failed f)) → g ≡ f
 failed_same f g e = cc
@@ -72,15 +72,15 @@ by_number true b n f e = let z : ◌≡◌ {A = ℕ} 0 1 = cc in omega arith
 by_number false true n f e = let z : ◌≡◌ {A = ℕ} 0 1 = cc in omega arith
 by_number false false n f e = let z : ◌≡◌ {A = ℕ} 0 1 = cc in omega arith
 
-by_verdict : (b : Bool) (n : ℕ) (g f : FailedNodes) → IsCounted g
-    → ◌≡◌ {A = Result Verdict DecodeError} (Ok (cond b (cond (eqb n (2 ^ 64 - 1)) HeartBeat (cond (eqb n (2 ^ 64 - 2)) UnknownSeqno (Packet n))) (Failed g))) (Ok (Failed f)) → IsCounted f
+by_verdict : (b : Bool) (n : ℕ) (g f : FailedNodes) → IsTallied g
+    → ◌≡◌ {A = Result Verdict DecodeError} (Ok (cond b (cond (eqb n (2 ^ 64 - 1)) HeartBeat (cond (eqb n (2 ^ 64 - 2)) UnknownSeqno (Packet n))) (Failed g))) (Ok (Failed f)) → IsTallied f
 by_verdict true n g f c e = absurd (by_number (eqb n (2 ^ 64 - 1)) (eqb n (2 ^ 64 - 2)) n f e)
-by_verdict false n g f c e = subst IsCounted (failed_same f g e) c
+by_verdict false n g f c e = subst IsTallied (failed_same f g e) c
 
-by_read : (r : Result AckFields DecodeError) (f : FailedNodes) → and_then r (λ a. Ok (judged a)) ≡ Ok (Failed f) → IsCounted f
-by_read (Ok a) f e = by_verdict (eqb (failed_nodes a.codes).count 0) a.seqno (failed_nodes a.codes) f (failed_counted a.codes) e
+by_read : (r : Result AckFields DecodeError) (f : FailedNodes) → and_then r (λ a. Ok (judged a)) ≡ Ok (Failed f) → IsTallied f
+by_read (Ok a) f e = by_verdict (eqb (failed_nodes a.codes).count 0) a.seqno (failed_nodes a.codes) f (failed_tallied a.codes) e
 by_read (Err x) f e = absurd (let z : ◌≡◌ {A = ℕ} 0 1 = cc in omega arith)
 
-pub verdict_counted : (bs : List ℕ) (f : FailedNodes) → verdict_on bs ≡ Ok (Failed f) → IsCounted f
+pub verdict_tallied : (bs : List ℕ) (f : FailedNodes) → verdict_on bs ≡ Ok (Failed f) → IsTallied f
 unfolding verdict_on
-verdict_counted bs f e = by_read (ack_of bs) f e
+verdict_tallied bs f e = by_read (ack_of bs) f e
