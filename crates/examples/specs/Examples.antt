@@ -15,7 +15,7 @@ use Rattle.sending.specs.Asking.{heard_in}
 use Rattle.writer.specs.declared.heed.Decision.TheVariants as decision
 use Rattle.writer.specs.declared.refusal.Refusal.TheVariants as refusal
 use Rattle.writer.specs.Heeding.{on_heard}
-use Rattle.writer.specs.Recovering.{left_of, wants}
+use Rattle.writer.specs.Recovering.{left_of, needs_datanode}
 use Rattle.writer.specs.Refusals.{number_of}
 use Rattle.writer.specs.Views.{View}
 
@@ -61,4 +61,4 @@ pub record Examples : Type 0 where
   -- so it is with the writer: an answer that passes with number -2 closes it, with number 9; and the bytes written since the opening count for nothing
   pub unknown_number_closes : (v : View) → on_heard v (heard_in (answer (0x08 ∷ 3 ∷ []))) ≡ decision.Close refusal.UnknownSeqno
   pub unknown_number_is_refusal_9 : number_of refusal.UnknownSeqno ≡ 9
-  pub written_bytes_replace_none : (v : View) → v.terms.replace.policy ≡ policy.Default → v.terms.replication ≡ 3 → length (left_of v) ≡ 2 → v.terms.initial_len ≡ 0 → wants v ≡ false
+  pub written_bytes_replace_none : (v : View) → v.terms.replace.policy ≡ policy.Default → v.terms.replication ≡ 3 → length (left_of v) ≡ 2 → v.terms.initial_len ≡ 0 → needs_datanode v ≡ false
