@@ -187,6 +187,8 @@ pub enum OneField<'a> {
 impl<'a> Message for OneField<'a> {
     ghost fields = { λ f. one_field f ∷ [] };
 
+    // Inlined, since whoever writes a row knows its kind: what the other kinds take then costs it nothing.
+    #[inline(always)]
     fn encoded_len(&self) -> usize {
         match self {
             OneField::Uint(field) => field.encoded_len(),
@@ -196,6 +198,7 @@ impl<'a> Message for OneField<'a> {
         }
     }
 
+    #[inline(always)]
     fn encode(&self, out: &mut [u8]) {
         match self {
             OneField::Uint(field) => field.encode(out),
