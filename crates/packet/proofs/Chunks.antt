@@ -56,6 +56,9 @@ count_empty c = go (chunk_count c 0) refl
     go zero e = refl
     go (suc m) e = absurd (let h = begins_within c 0 0 (omega arith) in omega arith)
 
+pub none_to_sum : {Q : Type 0} (c n : ℕ) → ((n ≡ 0) ⊎ (Q × (c ≡ 0))) → chunk_count c n ≡ 0
+none_to_sum c n = ⊎_elim (λ e. ap (chunk_count c) e ∙ count_empty c) (λ e. count_none c n e.1)
+
 count_more : (c n : ℕ) → 0 < c → chunk_count c (c + n) ≡ suc (chunk_count c n)
 count_more c n h =
     let ne : c ≡ 0 → ⊥ = λ e. omega arith in
@@ -87,6 +90,12 @@ sums_of_long c bytes = sums_long (chunks_in c bytes) ∙ ap (λ m. 4 * m) (lengt
 -- where there is no data, or the chunk size is 0
 pub no_sums : (c : ℕ) (bytes : List ℕ) → chunk_count c (length bytes) ≡ 0 → sums_of c bytes ≡ []
 no_sums c bytes e = nil_from_length (sums_of c bytes) (omega (arith, sums_of_long c bytes))
+
+pub none_to_sum_in : {Q : Type 0} (c : ℕ) (bytes : List ℕ) (r : Bool) → r ≡ eqb (length bytes) 0 → ((r ≡ true) ⊎ (Q × (c ≡ 0))) → sums_of c bytes ≡ []
+none_to_sum_in c bytes r is =
+    ⊎_elim
+    (λ e. no_sums c bytes (ap (chunk_count c) (eqb-true (length bytes) 0 (sym is ∙ e)) ∙ count_empty c))
+    (λ e. no_sums c bytes (count_none c (length bytes) e.1))
 
 pub nothing_to_sum : (c : ℕ) → sums_of c [] ≡ []
 nothing_to_sum c = no_sums c [] (count_empty c)

@@ -9,7 +9,7 @@ pub fn sums_len(data_len: usize, chunk_size: u32) -> Option<usize>
     ensures { let sums = 4 * chunk_count chunk_size data_len in
         result ≡ (if nat_lt sums (2 ^ 64) then Some sums else None) }
 {
-    if chunk_size == 0 {
+    if data_len == 0 || chunk_size == 0 {
         return Some(0);
     }
     data_len.div_ceil(chunk_size as usize).checked_mul(4)
@@ -37,7 +37,7 @@ pub fn sums_match(sums: &[u8], data: &[u8], chunk_size: u32) -> bool
     if sums_len(data.len(), chunk_size) != Some(sums.len()) {
         return false;
     }
-    if chunk_size == 0 {
+    if data.is_empty() || chunk_size == 0 {
         return true;
     }
     for (chunk, sum) in data.chunks(chunk_size as usize).zip(sums.chunks_exact(4)) {

@@ -6,7 +6,7 @@ use Rattle.std.specs.Slice.Iter.{chunks_rest, chunks_size, chunks_exact_rest, ch
 use Rattle.wire.specs.Octets.{big}
 use Rattle.wire.proofs.Front.{big_4}
 use Rattle.packet.specs.Sums.{sum_octets, sums_of}
-use Rattle.packet.proofs.Chunks.{count_none, no_sums, sums_of_long, other_length, same_length, left_all, left_more, left_other, left_none}
+use Rattle.packet.proofs.Chunks.{none_to_sum_in, sums_of_long, other_length, same_length, left_all, left_more, left_other, left_none}
 use Rattle.packet.proofs.Same.{same, other, differ, agree}
 use Rattle.packet.proofs.sums.sums_match.Goals as goal
 use Rattle.packet.proofs.sums.sums_match.Goals.{After-ne, After-ne-in-loop-chunk}
@@ -16,11 +16,11 @@ returns-then-ne c =
     other c.args.sums.now (sums_of c.args.chunk_size c.args.data.now)
     (λ e. other_length _ _ _ _ c.sums_len.ensures c.ne.ensures c.if-ne.true (omega arith) (ap length e ∙ sums_of_long c.args.chunk_size c.args.data.now))
 
-pub returns-then-chunk_size-eq0 : goal.returns-then-chunk_size-eq0
-returns-then-chunk_size-eq0 c =
-    let none = count_none c.args.chunk_size (length c.args.data.now) c.if-chunk_size-eq0.true in
+pub returns-then-is_empty : goal.returns-then-is_empty
+returns-then-is_empty c =
+    let none = none_to_sum_in c.args.chunk_size c.args.data.now _ c.is_empty.ensures c.then-is_empty.either in
     let long = same_length _ _ _ _ c.sums_len.ensures c.ne.ensures c.if-ne.false in
-    same c.args.sums.now (sums_of c.args.chunk_size c.args.data.now) (nil_from_length c.args.sums.now (omega arith) ∙ sym (no_sums c.args.chunk_size c.args.data.now none))
+    same c.args.sums.now (sums_of c.args.chunk_size c.args.data.now) (nil_from_length c.args.sums.now (omega (arith, ap length none, sums_of_long c.args.chunk_size c.args.data.now)) ∙ sym none)
 
 pub loop-chunk-init : goal.loop-chunk-init
 loop-chunk-init c =
