@@ -37,7 +37,7 @@ impl HeldTable {
     }
 
     /// One record, lent to be changed.
-    fn record(&mut self, i: usize) -> &mut HeldPacket
+    pub fn record(&mut self, i: usize) -> &mut HeldPacket
         requires { i < vec_len self.old.records }
         ensures* follows { sem 𝓛 (follows the_row packet-row
             self.entry.ghost_name result.ghost_name

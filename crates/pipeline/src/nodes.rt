@@ -37,7 +37,7 @@ impl NodeTable {
     }
 
     /// One row, to be changed.
-    fn row(&mut self, i: usize) -> &mut Datanode
+    pub fn row(&mut self, i: usize) -> &mut Datanode
         requires { i < vec_len self.old.rows }
         ensures* follows { sem 𝓛 (follows the_row Node-row self.entry.ghost_name result.ghost_name
             (λ w. record { rows = with_item self.old.rows i w; room = self.old.room })) }

@@ -58,7 +58,7 @@ fn judged(message: &[u8]) -> Result<(), ReplyError>
 
 /// What a response of so many octets at the front of `answer` says, or that none came.
 // The length comes beside the answer's buffer, as the link tells it: nothing is allocated, and the response is the buffer's front.
-pub(crate) fn judge_reply(came: Result<usize, LinkLost>, answer: &[u8]) -> Result<(), ReplyError>
+pub fn judge_reply(came: Result<usize, LinkLost>, answer: &[u8]) -> Result<(), ReplyError>
     requires { size_of came ≤ length answer.now }
     ensures { result ≡ reply_of (front_of came answer.now) }
 {
