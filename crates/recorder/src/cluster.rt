@@ -82,7 +82,8 @@ pub fn opening<'a>(
         block_id: 1_073_741_825,
         stamp: STAMP,
         initial_len: 0,
-        block_size: options.block,
+        // The writer opens no block for more than 2^63 - 1 bytes; a larger limit is as good as that.
+        block_size: options.block.min(u64::MAX / 2),
         chunk_size: size.chunk_size(),
         packet_size: options.packet,
         replication: nodes as u32,
